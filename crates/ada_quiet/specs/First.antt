@@ -2,7 +2,7 @@
 -- neither plain nor frugal, where it may be; Adjust is not quiet, and not frugal where none is called; or, of a type with a component of an access type, it is
 -- not simple, or may not track, or frees objects where a record has two controlled parts; or Finalize is neither quiet nor, where it may be, frugal.
 
-use Rattle.std.specs.Prelude.{◌≡◌, ◌⊎◌, ℕ, Bool, true, false, ◌&&◌, ◌||◌, ◌==◌, nat_lt, if◌then◌else◌, Option, Some, None, is_some}
+use Rattle.std.specs.Prelude.{◌≡◌, ◌⊎◌, ℕ, Bool, false, ◌&&◌, ◌||◌, ◌==◌, nat_lt, if◌then◌else◌, Option, Some, None, is_some}
 use Rattle.std.specs.List.{slice_get}
 use Rattle.std.specs.Option.{option_map}
 use Rattle.ada_text.specs.declared.spot.Spot.{Spot}

@@ -34,7 +34,7 @@ module _ (w : World) where
   assign_goes [] x to right s sound root shun one r h anew =
       stays w (at (frame.Evaluates right ∷ frame.Stores x ∷ s.control) s) r (one, refl, (tt, anew, h)) refl
   assign_goes (c ∷ cs) x to right s sound root shun one r h anew =
-      holder_goes w c cs x to (λ last. frame.Targets last right) s sound root shun r (λ n. (one, anew, h))
+      holder_goes w c cs x to (λ last. frame.Targets last right) s sound root shun r (λ n. (one, anew, h)) (λ n. refl)
       (λ may u n is_may is. is_may)
 
   -- So it does, by what is found of the object.
@@ -42,7 +42,7 @@ module _ (w : World) where
       (v : Value) (c : ℕ) (right : RightForm) (found : Found (Cell Value)) (s : State) → look s.heap v ≡ found
       → ValueSeeks w s.heap v (frame.Targets c right ∷ s.control) → right_shuns w.p.types w.shuns w.apart (variables_in w) right ≡ true
       → Goes w s (target_next named v c right found s)
-  target_found v c right on_null s is seeks one r h anew = jumps w (Raising ConstraintError) s r h
+  target_found v c right on_null s is seeks one r h anew = jumps w (Raising ConstraintError) s r h anew
   target_found v c right on_gone s is seeks one r h anew = tt
   target_found v c right on_other s is seeks one r h anew = tt
   target_found v c right (finds cell) s is seeks one r h anew =
@@ -60,7 +60,7 @@ module _ (w : World) where
       (o : Value) (c : ℕ) (v : Value) (found : Option Value) (s : State) → IsInSight w.ghosts o → Goes w s (stored_next named o c v found s)
   stored_goes o c v None s sight r h anew = tt
   stored_goes o c v (Some before) s sight r h anew =
-      stays w (record s { heap = store s.heap o c v }) (changed_run w (filled c v) o s.activations s.heap sight r) h anew
+      stays w (record s { heap = store s.heap o c v }) (changed_run w (filled c v) o s.activations s.masters s.heap sight r) h anew
 
   -- The bodies go on as a component gets a value of an object that has been looked for.
   pub store_goes :
@@ -80,13 +80,13 @@ module _ (w : World) where
   record_assign_goes true target to items s bare sound root shun may all r h anew = absurd (cc)
   record_assign_goes false target to items s bare sound root shun may all r h anew =
       record_goes w target to (λ place. frame.TargetsRecord place.component target.record_type items) s sound root shun may r
-      (λ place. (all, anew, h)) (λ may_seek u place is_may. is_may)
+      (λ place. (all, anew, h)) (λ place. refl) (λ may_seek u place is_may. is_may)
 
   -- The bodies go on as the object is looked for in which the target lies.
   pub record_target_goes :
       (o : Value) (first count : ℕ) (items : List ItemForm) (found : Found (Cell Value)) (s : State) → IsInSight w.ghosts o
       → list_all (item_shuns w.p.types w.shuns w.apart (variables_in w)) items ≡ true → Goes w s (record_target_next named o first count items found s)
-  record_target_goes o first count items on_null s sight all r h anew = jumps w (Raising ConstraintError) s r h
+  record_target_goes o first count items on_null s sight all r h anew = jumps w (Raising ConstraintError) s r h anew
   record_target_goes o first count items on_gone s sight all r h anew = tt
   record_target_goes o first count items on_other s sight all r h anew = tt
   record_target_goes o first count items (finds cell) s sight all r h anew =
@@ -98,7 +98,7 @@ module _ (w : World) where
       → Goes w s (record_stored_next named o first vs found s)
   record_stored_goes o first vs None s sight r h anew = tt
   record_stored_goes o first vs (Some before) s sight r h anew =
-      stays w (record s { heap = stored_from named s.heap o first vs }) (stored_run w vs o first s.activations s.heap sight r) h anew
+      stays w (record s { heap = stored_from named s.heap o first vs }) (stored_run w vs o first s.activations s.masters s.heap sight r) h anew
 
   -- The bodies go on as they get the values that were computed for them.
   pub store_record_goes :
@@ -108,29 +108,30 @@ module _ (w : World) where
   store_record_goes o first count on_other s sight r h anew = tt
   store_record_goes o first count (finds cell) s sight r h anew =
       record_stored_goes o first (newest_ones named count s) (record_in cell.values first count) (without_newest named count s) sight
-      (operands_run w (drop count (operands s)) s.activations s.heap (elsewhere_drop w.ghosts w.unnamed count (operands s) r.operands) r) h anew
+      (operands_run w (drop count (operands s)) s.activations s.masters s.heap (elsewhere_drop w.ghosts w.unnamed count (operands s) r.operands) r) h anew
 
   -- The bodies go on as a Get begins.
   pub gets_goes :
       (cs : List ℕ) (x : ℕ) (to : VariableKind) (input : List ℤ) (s : State) → Sound w s → IsRooted w.p.types (variables_in w) x cs to
       → selectors_shun w.p.types w.shuns (variable_kind (variables_in w) x) cs ≡ true → Goes w s (gets_next named cs x input s)
   gets_goes (c ∷ cs) x to input s sound root shun r h anew =
-      holder_goes w c cs x to (λ last. frame.Receives last) s sound root shun r (λ n. (tt, anew, h))
+      holder_goes w c cs x to (λ last. frame.Receives last) s sound root shun r (λ n. (tt, anew, h)) (λ n. refl)
       (λ may u n is_may is. is_may)
-  gets_goes [] x to [] s sound root shun r h anew = jumps w (Raising EndError) s r h
+  gets_goes [] x to [] s sound root shun r h anew = jumps w (Raising EndError) s r h anew
   gets_goes [] x to (i ∷ is) s sound root shun r h anew = put_goes x (an_integer i) (record s { input = is }) tt r h anew
 
   -- The bodies go on as a component gets the next number of the input, if there is that component.
   received_goes :
       (o : Value) (c : ℕ) (input : List ℤ) (found : Option Value) (s : State) → IsInSight w.ghosts o → Goes w s (received_next named o c input found s)
   received_goes o c input None s sight r h anew = tt
-  received_goes o c [] (Some before) s sight r h anew = jumps w (Raising EndError) s r h
+  received_goes o c [] (Some before) s sight r h anew = jumps w (Raising EndError) s r h anew
   received_goes o c (i ∷ is) (Some before) s sight r h anew =
-      stays w (record s { heap = store s.heap o c (an_integer i); input = is }) (changed_run w (filled c (an_integer i)) o s.activations s.heap sight r) h anew
+      stays w (record s { heap = store s.heap o c (an_integer i); input = is })
+      (changed_run w (filled c (an_integer i)) o s.activations s.masters s.heap sight r) h anew
 
   -- The bodies go on as a component gets the next number of the input.
   pub receive_goes : (o : Value) (c : ℕ) (found : Found (Cell Value)) (s : State) → IsInSight w.ghosts o → Goes w s (receive_next named o c found s)
-  receive_goes o c on_null s sight r h anew = jumps w (Raising ConstraintError) s r h
+  receive_goes o c on_null s sight r h anew = jumps w (Raising ConstraintError) s r h anew
   receive_goes o c on_gone s sight r h anew = tt
   receive_goes o c on_other s sight r h anew = tt
   receive_goes o c (finds cell) s sight r h anew = received_goes o c s.input (slice_get cell.values c) s sight r h anew

@@ -1,6 +1,6 @@
 -- Where bodies begin that shun some access types, in a call (6.4) or as an operation of what is freed (7.6): what was there waits.
 
-use Rattle.std.proofs.Common.{◌≡◌, ℕ, Bool, true, List, [], ◌∷◌, Option, Some, refl, sym, inr, subst}
+use Rattle.std.proofs.Common.{◌≡◌, ℕ, Bool, true, List, [], ◌∷◌, Option, Some, refl, sym, ap, inr, subst}
 use Rattle.std.specs.List.{slice_get}
 use Rattle.ada_program.specs.Form.{ActualForm}
 use Rattle.ada_program.specs.ProgramForm.{BodyForm, ProgramForm, seen_in}
@@ -8,7 +8,7 @@ use Rattle.ada_meaning.specs.declared.state.Id.{Id}
 use Rattle.ada_meaning.specs.declared.state.Value.{Value}
 use Rattle.ada_meaning.specs.Frame.{Frame}
 use Rattle.ada_meaning.specs.Frame as frame
-use Rattle.ada_meaning.specs.State.{Activation}
+use Rattle.ada_meaning.specs.State.{Activation, Master}
 use Rattle.ada_meaning.specs.Step.{procedure_of, older, entered, given_places}
 use Rattle.ada_meaning.specs.Named.{State, named}
 use Rattle.ada_typed.proofs.Bodies.{seen_as}
@@ -41,21 +41,24 @@ module _ (w : World) where
   pub beginning_goes :
       (procedure : ℕ) (b : BodyForm) (given : List Value) (actuals : List ActualForm) (references : List Value) (k : List (Frame Value))
       (acts : List (Activation Value)) (s : State) → slice_get w.p.bodies procedure ≡ Some b → body_shuns w.p.types w.shuns w.apart b ≡ true
-      → AreElsewhere w.ghosts w.unnamed given → AreElsewhere w.ghosts w.unnamed references → IsRun w acts s.heap → Left w k → begins_anew k ≡ true
+      → AreElsewhere w.ghosts w.unnamed given → AreElsewhere w.ghosts w.unnamed references → IsRun w acts s.masters s.heap → Left w k → begins_anew k ≡ true
       → On w (beginning procedure b given actuals references k acts s)
   beginning_goes procedure b given actuals references k acts s is shun others referring r h anew =
-      let inner : World = record w { procedure = Some procedure; suspended = acts } in
-      let left : LeftShuns w.p w.shuns w.apart w.ghosts w.unnamed w.behind (procedure_of acts) k (older acts) =
-      subst (λ (suspended : List (Activation Value)). LeftShuns w.p w.shuns w.apart w.ghosts w.unnamed w.behind (procedure_of acts) k suspended)
-      (sym r.waits) (subst (λ (number : Option ℕ). LeftShuns w.p w.shuns w.apart w.ghosts w.unnamed w.behind number k w.suspended) (sym r.runs) h) in
+      let entered : Master = record { number = s.next; items = [] } in
+      let inner : World = record w { procedure = Some procedure; upper = entered ∷ w.upper; suspended = acts } in
+      let left : LeftShuns w.p w.shuns w.apart w.ghosts w.unnamed w.behind w.lower (procedure_of acts) k w.upper (older acts) =
+      subst (λ (suspended : List (Activation Value)). LeftShuns w.p w.shuns w.apart w.ghosts w.unnamed w.behind w.lower (procedure_of acts) k w.upper suspended)
+      (sym r.waits)
+      (subst (λ (number : Option ℕ). LeftShuns w.p w.shuns w.apart w.ghosts w.unnamed w.behind w.lower number k w.upper w.suspended) (sym r.runs) h) in
       stays inner (beginning procedure b given actuals references k acts s) (record {
         runs = refl;
         waits = refl;
+        owns = ap (λ (own : List Master). entered ∷ own) r.owns;
         places = given_places_elsewhere w.ghosts w.unnamed given b.variables others;
         operands = tt;
         same = r.same;
       }) (
         elaborates_shuns w.p w.shuns w.apart w.ghosts procedure b is shun,
         refl,
-        inr (record { references = referring; places = r.places; operands = r.operands; anew = anew; others = left }),
+        (tt, inr (record { references = referring; places = r.places; operands = r.operands; anew = anew; others = left })),
       ) refl

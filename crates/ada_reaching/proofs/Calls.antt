@@ -108,7 +108,7 @@ module _ (w : World) where
   pub refers_goes :
       (v : Value) (place : Place) (count : ℕ) (found : Found (Cell Value)) (s : State) → IsInSight w.ghosts v → IsElsewhere w.ghosts w.unnamed v
       → Goes w s (refers_next named v place count found s)
-  refers_goes v place count on_null s sight other r h anew = jumps w (Raising ConstraintError) s r h
+  refers_goes v place count on_null s sight other r h anew = jumps w (Raising ConstraintError) s r h anew
   refers_goes v place count on_gone s sight other r h anew = tt
   refers_goes v place count on_other s sight other r h anew = tt
   refers_goes v place count (finds cell) s sight other r h anew = referred_goes v place _ s sight other r h anew
@@ -119,7 +119,7 @@ module _ (w : World) where
       → selectors_shun w.p.types w.shuns (variable_kind (variables_in w) x) cs ≡ true → Goes w s (open_next named cs x s)
   open_goes [] x to s sound root shun r h anew = tt
   open_goes (c ∷ cs) x to s sound root shun r h anew =
-      holder_goes w c cs x to (λ last. frame.OpensIn last) s sound root shun r (λ n. (tt, anew, h)) (λ may u n is_may is. is_may)
+      holder_goes w c cs x to (λ last. frame.OpensIn last) s sound root shun r (λ n. (tt, anew, h)) (λ n. refl) (λ may u n is_may is. is_may)
 
   -- The bodies go on as a component is given.
   opened_goes :
@@ -129,7 +129,7 @@ module _ (w : World) where
   opened_goes v c o x (Some u) s fine there is sight other r h anew =
       let own = held_in w.p.types s.heap fine o x c u there is in
       let reference = refer v (record { component = c; part = 0 }) in
-      let referring = operands_run w (reference ∷ operands s) s.activations s.heap
+      let referring = operands_run w (reference ∷ operands s) s.activations s.masters s.heap
       (refer_elsewhere w.ghosts w.unnamed v (record { component = c; part = 0 }) sight other, r.operands) r in
       gives w u (computed reference s) (component_elsewhere w s.heap r.same own.0 u (own.3 w.types_fit) own.2) referring h anew
 
@@ -137,7 +137,7 @@ module _ (w : World) where
   opens_found :
       (v : Value) (c : ℕ) (found : Found (Cell Value)) (s : State) → Fine w s → look s.heap v ≡ found → IsInSight w.ghosts v → IsElsewhere w.ghosts w.unnamed v
       → Goes w s (opens_next named v c found s)
-  opens_found v c on_null s fine is sight other r h anew = jumps w (Raising ConstraintError) s r h
+  opens_found v c on_null s fine is sight other r h anew = jumps w (Raising ConstraintError) s r h anew
   opens_found v c on_gone s fine is sight other r h anew = tt
   opens_found v c on_other s fine is sight other r h anew = tt
   opens_found v c (finds cell) s fine is sight other r h anew =
@@ -161,7 +161,7 @@ module _ (w : World) where
       (elsewhere_take w.ghosts w.unnamed (operand_count actuals) (operands s) r.operands) in
       beginning_goes w procedure b (given_values actuals vs) actuals (references_in actuals vs) s.control (with_operands [] s.activations) s is shun
       (given_values_elsewhere w.ghosts w.unnamed actuals vs given) (references_elsewhere w.ghosts w.unnamed actuals vs given)
-      (operands_run w [] s.activations s.heap tt r) h anew
+      (operands_run w [] s.activations s.masters s.heap tt r) h anew
 
 module _ (w : World) where
   -- What goes back to components is stored there next, in front of what shuns the types.
@@ -175,15 +175,15 @@ module _ (w : World) where
 module _ (w : World) where
   -- The bodies go on as that of a call has ended (6.4.1, 6.5): the caller's.
   module _ (s : State) (f : Frame Value) (r : Runs w s) (inner : IsInner w.ghosts w.unnamed f s.control w.suspended
-      (LeftShuns w.p w.shuns w.apart w.ghosts w.unnamed w.behind (procedure_of w.suspended) s.control (older w.suspended))) where
+      (LeftShuns w.p w.shuns w.apart w.ghosts w.unnamed w.behind w.lower (procedure_of w.suspended) s.control w.upper (older w.suspended))) where
     -- The caller runs.
     abbrev pub caller : World
     caller = record w { procedure = procedure_of w.suspended; suspended = older w.suspended }
 
     -- So it is with its activation and those that wait for it.
-    pub resumed_run : IsRun caller (older s.activations) s.heap
-    resumed_run = subst (λ (acts : List (Activation Value)). IsRun caller acts s.heap) (sym r.waits)
-        (record { runs = refl; waits = refl; places = inner.places; operands = inner.operands; same = r.same })
+    pub resumed_run : IsRun caller (older s.activations) s.masters s.heap
+    resumed_run = subst (λ (acts : List (Activation Value)). IsRun caller acts s.masters s.heap) (sym r.waits)
+        (record { runs = refl; waits = refl; owns = r.owns; places = inner.places; operands = inner.operands; same = r.same })
 
     -- It goes on without anything given back.
     pub left_goes : (m : Mode) → On w (record s { activations = older s.activations; mode = m })
@@ -195,11 +195,11 @@ module _ (w : World) where
     returned_goes m actuals references parts others =
         let copied = copied_back actuals (places s) (places_of (older s.activations)) in
         let stored = stored_back actuals (places s) ++ operands_of (older s.activations) in
-        let placed : IsRun caller (with_places copied (older s.activations)) s.heap =
-        places_run caller copied (older s.activations) s.heap
+        let placed : IsRun caller (with_places copied (older s.activations)) s.masters s.heap =
+        places_run caller copied (older s.activations) s.masters s.heap
         (copied_elsewhere w.ghosts w.unnamed actuals (places s) (places_of (older s.activations)) r.places resumed_run.places) resumed_run in
         let front = storing_left caller references s.control parts others (inner.others, inner.anew) in
         stays caller (record (returned named actuals references s) { mode = m })
-        (operands_run caller _ (with_places copied (older s.activations)) s.heap
+        (operands_run caller _ (with_places copied (older s.activations)) s.masters s.heap
         (elsewhere_append w.ghosts w.unnamed (stored_back actuals (places s)) _
         (stored_elsewhere w.ghosts w.unnamed actuals (places s) r.places) resumed_run.operands) placed) front.0 front.1

@@ -35,7 +35,7 @@ use Rattle.ada_reaching.proofs.Going.{World, variables_in, Runs, Left, On, Goes,
 use Rattle.ada_reaching.proofs.Paths.{found_there, new_elsewhere, new_in_sight, values_elsewhere, Sound, Fine, named_goes, record_goes}
 use Rattle.ada_reaching.proofs.Rooted.{ExpressionIsRooted, ItemsAreRooted, RightIsRooted}
 use Rattle.ada_reaching.proofs.Selections.{bare_tasks}
-use Rattle.ada_reaching.proofs.Treats.{treating_left}
+use Rattle.ada_reaching.proofs.Treats.{starting_left}
 
 module _ (w : World) where
   -- The bodies go on as an expression is evaluated.
@@ -83,8 +83,8 @@ module _ (w : World) where
   pub outcome_goes :
       (given : Result Value OperatorFault) (s : State) → ((v : Value) → given ≡ Ok v → IsElsewhere w.ghosts w.unnamed v) → Goes w s (outcome_next named given s)
   outcome_goes (Ok v) s each r h anew = gives w v s (each v refl) r h anew
-  outcome_goes (Err Overflow) s each r h anew = jumps w (Raising ConstraintError) s r h
-  outcome_goes (Err DivisionByZero) s each r h anew = jumps w (Raising ConstraintError) s r h
+  outcome_goes (Err Overflow) s each r h anew = jumps w (Raising ConstraintError) s r h anew
+  outcome_goes (Err DivisionByZero) s each r h anew = jumps w (Raising ConstraintError) s r h anew
   outcome_goes (Err WrongType) s each r h anew = tt
 
   -- The first of some items shuns the types, and so do the others.
@@ -111,7 +111,7 @@ module _ (w : World) where
       let both = items_apart (item_of_record q) is shun in
       let two = and_parts (path_shuns w.p.types w.shuns w.apart (variables_in w) q.object) (may_follow w.shuns (path_kind w.p.types (variables_in w) q.object)) both.0 in
       record_goes w q root.0 (λ place. frame.Copies place.component q.record_type) (at (frame.Fills is ∷ s.control) s) sound root.1 two.0
-      (ap (may_follow w.shuns) (sym root.2) ∙ two.1) r (λ place. (tt, refl, (both.1, anew, h))) (λ may u place is_may. is_may)
+      (ap (may_follow w.shuns) (sym root.2) ∙ two.1) r (λ place. (tt, refl, (both.1, anew, h))) (λ place. refl) (λ may u place is_may. is_may)
 
   -- The bodies go on as the components of a record are copied, if there is that record.
   copied_goes :
@@ -120,13 +120,14 @@ module _ (w : World) where
   copied_goes v None s each r h anew = tt
   copied_goes v (Some vs) s each r h anew =
       stays w (set_operands (in_front vs (operands s)) s)
-      (operands_run w (in_front vs (operands s)) s.activations s.heap (elsewhere_in_front w.ghosts w.unnamed vs (operands s) (each vs refl) r.operands) r) h anew
+      (operands_run w (in_front vs (operands s)) s.activations s.masters s.heap
+      (elsewhere_in_front w.ghosts w.unnamed vs (operands s) (each vs refl) r.operands) r) h anew
 
   -- So they do, by what is found of the object in which it lies.
   copies_found :
       (v : Value) (first count : ℕ) (found : Found (Cell Value)) (s : State) → Fine w s → look s.heap v ≡ found
       → Goes w s (copies_next named v first count found s)
-  copies_found v first count on_null s fine is r h anew = jumps w (Raising ConstraintError) s r h
+  copies_found v first count on_null s fine is r h anew = jumps w (Raising ConstraintError) s r h anew
   copies_found v first count on_gone s fine is r h anew = tt
   copies_found v first count on_other s fine is r h anew = tt
   copies_found v first count (finds cell) s fine is r h anew =
@@ -154,7 +155,7 @@ module _ (w : World) where
         (both.1, refl, (ap (λ (bare : Bool). bare || w.apart.starts access) both.0, anew, h)) refl
     right_goes (allocates_default access) s sound shun root r h anew =
         stays w (at (frame.Creates access (words_of tds access) ∷ s.control) (initialized named tds access s))
-        (operands_run w (in_front (initial_values named (reached_of tds access)) (operands s)) s.activations s.heap
+        (operands_run w (in_front (initial_values named (reached_of tds access)) (operands s)) s.activations s.masters s.heap
         (elsewhere_in_front w.ghosts w.unnamed (initial_values named (reached_of tds access)) (operands s)
         (initial_elsewhere w.ghosts w.unnamed (reached_of tds access)) r.operands) r)
         (shun, anew, h) refl
@@ -179,7 +180,7 @@ module _ (w : World) where
           | inr starts ↦
               let all : IsLeftOf w.apart.definitions PartsFirst access (all_tasks tds access PartsFirst) =
               subst (λ (ts : List TypeDefinition). IsLeftOf w.apart.definitions PartsFirst access (all_tasks ts access PartsFirst)) own whole in
-              let left = treating_left w v (begins Creation []) (all_tasks tds access PartsFirst) s.control sight
+              let left = starting_left w v Creation [] (all_tasks tds access PartsFirst) s.control sight
               (record { access = access; may = starts; created = refl; left = all; begun = tt }) h anew in
               stays w (treated_on named v (begins Creation []) (all_tasks tds access PartsFirst) s) r left.0 left.1
         ]
@@ -195,14 +196,14 @@ module _ (w : World) where
         let after = create s.heap words cell in
         let t = record (set_operands (v ∷ vs) s) { allocated = counted s.allocated; heap = after } in
         started_goes access v t may (new_in_sight w s.heap r.same words)
-        (created_run w words cell (with_operands (v ∷ vs) s.activations) s.heap
-        (operands_run w (v ∷ vs) s.activations s.heap
+        (created_run w words cell (with_operands (v ∷ vs) s.activations) s.masters s.heap
+        (operands_run w (v ∷ vs) s.activations s.masters s.heap
         (new_elsewhere w s.heap r.same words, elsewhere_drop w.ghosts w.unnamed count (operands s) r.operands) r)) h anew
-    answered_goes access count words home s may r h anew false = jumps w (Raising StorageError) s r h
+    answered_goes access count words home s may r h anew false = jumps w (Raising StorageError) s r h anew
 
     -- The bodies go on as the words of an object are asked for.
     pub new_goes :
         (access count words : ℕ) (home : Option Destination) (s : State) → may_start w.p.types w.apart access ≡ true
         → Goes w s (new_next named tds access count words home s)
-    new_goes access count words None s may r h anew = jumps w (Raising StorageError) s r h
+    new_goes access count words None s may r h anew = jumps w (Raising StorageError) s r h anew
     new_goes access count words (Some home) s may r h anew = answered_goes access count words home s may r h anew

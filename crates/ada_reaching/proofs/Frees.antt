@@ -30,10 +30,10 @@ use Rattle.ada_reaching.specs.Reaching.{IsElsewhere, begins_anew}
 use Rattle.ada_reaching.specs.Forms.{may_follow, may_end, selectors_shun}
 use Rattle.ada_reaching.specs.Law.{GhostsStay, AllGoOn}
 use Rattle.ada_reaching.proofs.Elsewhere.{elsewhere_at}
-use Rattle.ada_reaching.proofs.Going.{World, variables_in, Runs, Left, On, Goes, ValueSeeks, changed_run, stays, jumps}
+use Rattle.ada_reaching.proofs.Going.{World, variables_in, Runs, Left, On, Goes, ValueSeeks, anew_quiet, anew_stands, changed_run, stays, jumps}
 use Rattle.ada_reaching.proofs.Paths.{IsThere, found_there, Sound, Fine, may_seek, component_elsewhere, in_sight, holder_goes}
 use Rattle.ada_reaching.proofs.Selections.{IsRooted, held_in, named_kind, named_access}
-use Rattle.ada_reaching.proofs.Treats.{treating_left}
+use Rattle.ada_reaching.proofs.Treats.{ending_left, ending_anew}
 
 -- The object is there that stands.
 standing_there :
@@ -106,9 +106,10 @@ module _ (w : World) where
         let behind = frame.Ends v ∷ frame.GivesBack v (Freeing s.next) (Some (pool_freed_to (home_of access s.masters))) ∷ clears ∷ s.control in
         let all : IsLeftOf w.apart.definitions WholeFirst cell.access (all_tasks tds cell.access WholeFirst) =
         subst (λ (ts : List TypeDefinition). IsLeftOf w.apart.definitions WholeFirst cell.access (all_tasks ts cell.access WholeFirst)) own whole in
-        let left = treating_left w v (frame.ends (Freeing s.next)) (all_tasks tds cell.access WholeFirst) behind sight (cell.access, inl (may, all))
-        (sight, refl, (sight, anew, h)) refl in
-        stays w (freeing named tds access v cell clears s) (changed_run w parted v s.activations s.heap sight r) left.0 left.1
+        let left = ending_left w v (Freeing s.next) (all_tasks tds cell.access WholeFirst) behind sight (cell.access, inl (may, all))
+        (sight, refl, (sight, anew_quiet (clears ∷ s.control) anew, h)) refl in
+        stays w (freeing named tds access v cell clears s) (changed_run w parted v s.activations s.masters s.heap sight r) left.0
+        (ending_anew w v (Freeing s.next) (all_tasks tds cell.access WholeFirst) behind refl (anew_stands (clears ∷ s.control) anew))
 
     -- The bodies go on as what a variable names is freed.
     free_goes :
@@ -163,7 +164,7 @@ module _ (w : World) where
         (access : ℕ) (holder : Value) (c : ℕ) (found : Found (Cell Value)) (s : State) → Fine w s → look s.heap holder ≡ found
         → ValueSeeks w s.heap holder (frame.FreesIn access c ∷ s.control)
         → Goes w s (free_in_next named tds access holder c found s)
-    free_found_goes access holder c on_null s fine is seeks r h anew = jumps w (Raising ConstraintError) s r h
+    free_found_goes access holder c on_null s fine is seeks r h anew = jumps w (Raising ConstraintError) s r h anew
     free_found_goes access holder c on_gone s fine is seeks r h anew = tt
     free_found_goes access holder c on_other s fine is seeks r h anew = tt
     free_found_goes access holder c (finds cell) s fine is seeks r h anew =
@@ -203,5 +204,5 @@ module _ (w : World) where
         (elsewhere_at w.ghosts w.unnamed (places s) x r.places) has may)
         (variable_ends s (held named s x) to sound.filled has ends) r h anew
     frees_go (c ∷ cs) access x to s sound root ends may shun r h anew =
-        holder_goes w c cs x (variable.Access to) (λ last. frame.FreesIn access last) s sound root shun r (λ n. (tt, anew, h))
+        holder_goes w c cs x (variable.Access to) (λ last. frame.FreesIn access last) s sound root shun r (λ n. (tt, anew, h)) (λ n. refl)
         (λ seen u n is_seen is. (is_seen, ap (may_follow w.shuns) is ∙ may, ap (may_end w.apart) is ∙ ends))

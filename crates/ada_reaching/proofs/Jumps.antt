@@ -1,6 +1,6 @@
 -- Jumps in a body that shuns some access types, and each of its steps.
 
-use Rattle.std.proofs.Common.{◌≡◌, ℕ, Bool, true, false, List, [], ◌∷◌, map, Some, refl, inl, inr}
+use Rattle.std.proofs.Common.{◌≡◌, ℕ, Bool, true, false, List, [], ◌∷◌, map, Some, refl, sym, inl, inr, subst}
 use Rattle.std.specs.Prelude.{if◌then◌else◌}
 use Rattle.std.proofs.lemmas.Bool.{and_parts}
 use Rattle.ada_program.specs.declared.program.Exception.{Exception}
@@ -14,16 +14,18 @@ use Rattle.ada_meaning.specs.declared.event.Birth.TheVariants.{Creation, Copy, A
 use Rattle.ada_meaning.specs.declared.state.Mode.{Mode}
 use Rattle.ada_meaning.specs.declared.state.Mode.TheVariants.{Running, Raising, Exiting, Returning}
 use Rattle.ada_meaning.specs.declared.state.Value.{Value}
-use Rattle.ada_meaning.specs.Frame.{Frame, is_loop, is_return, is_master, Landing, passes_on, goes_behind, goes_in, breaks_off, escapes, operation_landing, handler_landing, exception_landing, landing}
+use Rattle.ada_meaning.specs.Frame.{Frame, begins, ends, is_loop, is_return, is_master, Landing, passes_on, goes_behind, goes_in, breaks_off, escapes, operation_landing, handler_landing, exception_landing, exit_landing, return_landing, landing}
 use Rattle.ada_meaning.specs.Frame as frame
+use Rattle.ada_meaning.specs.State.{Master}
 use Rattle.ada_meaning.specs.Step.{operands, broken_next, broken_off, landed, unwound, pass_next}
 use Rattle.ada_meaning.specs.Named.{Object, State, named, look, next}
 use Rattle.ada_untouched.specs.Untouched.{IsInSight}
 use Rattle.ada_reaching.specs.Apart.{AreBegunIn}
-use Rattle.ada_reaching.specs.Reaching.{IsLast, FrameShuns, references_at}
+use Rattle.ada_reaching.specs.Reaching.{FrameShuns, InMasters, IsLast, MayJump, begins_anew, is_leaving, references_at}
 use Rattle.ada_reaching.specs.Forms.{statements_shun, handlers_shun}
-use Rattle.ada_reaching.specs.Law.{AreApart, FirstTakesNone, AllGoOn}
-use Rattle.ada_reaching.proofs.Going.{World, variables_in, Runs, Left, On, Goes, OperandsSeek, reaches, stays}
+use Rattle.ada_reaching.specs.Law.{AreApart, FirstHousesIts, AllGoOn}
+use Rattle.ada_reaching.proofs.Going.{World, variables_in, Runs, LeftIn, Left, On, Goes, OperandsSeek, may_jump, reaches, runs_on, stays}
+use Rattle.ada_reaching.proofs.Masters.{declares_out, in_own, is_own, own_in}
 use Rattle.ada_reaching.proofs.Paths.{Sound}
 use Rattle.ada_reaching.proofs.Calls.{AreParts, left_goes, returned_goes}
 use Rattle.ada_reaching.proofs.Frames.{newest_seeks, frame_goes}
@@ -125,14 +127,46 @@ module _ (w : World) where
   landed_goes (breaks_off v by done) m s shuns r h anew = broken_off_goes m v by done s shuns r h anew
   landed_goes escapes m s shuns r h anew = tt
 
-  -- The bodies go on as a master stops a jump, or the jump lands.
-  pass_goes : (master : Bool) (l : Landing Value) (m : Mode) (s : State) → LandsShunning l → Goes w s (pass_next named master l m s)
-  pass_goes true l m s shuns r h anew = stays w (record s { control = frame.Leaves m ∷ s.control; mode = Running }) r (tt, anew, h) refl
-  pass_goes false l m s shuns r h anew = landed_goes l m s shuns r h anew
+  -- Where a jump is on its way, no master is left first.
+  jump_stands : (m : Mode) (k : List (Frame Value)) → IsJump m → MayJump m k → is_leaving k ≡ false
+  jump_stands Running k is jump = absurd is
+  jump_stands (Raising e) k is jump = jump
+  jump_stands Exiting k is jump = jump
+  jump_stands Returning k is jump = jump
 
-  -- The bodies go on as a jump passes selectors that are followed.
-  passing : (s : State) → IsJump s.mode → Runs w s → Left w s.control → On w s
-  passing s is r h = reaches w s r h (jump_seeks s.heap s.mode s.control (operands s) is)
+  -- A master stops a jump: it is left first.
+  stops_go :
+      (f : Frame Value) (m : Mode) (s : State) → is_own f ≡ true → Runs w s → begins_anew s.control ≡ true
+      → InMasters w.apart w.lower f w.upper (λ (ns : List Master). LeftIn w ns s.control)
+      → On w (record s { control = frame.Leaves m ∷ s.control; mode = Running })
+  stops_go f m s is r anew h =
+      let own = in_own w.apart w.lower f w.upper (λ (ns : List Master). LeftIn w ns s.control) is h in
+      runs_on w (record s { control = frame.Leaves m ∷ s.control; mode = Running }) refl r
+      (tt, anew, own_in w.apart w.lower (frame.Leaves m) w.upper (λ (ns : List Master). LeftIn w ns s.control) refl own) refl
+
+  -- The bodies go on as a jump passes what is left to do.
+  passing : (s : State) → IsJump s.mode → Runs w s → Left w s.control → is_leaving s.control ≡ false → On w s
+  passing s is r h stands = reaches w s r h (may_jump s.mode s.control stands) (jump_seeks s.heap s.mode s.control (operands s) is)
+
+  -- A jump lands there in each mode.
+  lands_so :
+      (m : Mode) (f : Frame Value) (l : Landing Value) → IsJump m → ((e : Exception) → exception_landing e f ≡ l) → exit_landing f ≡ l → return_landing f ≡ l
+      → landing m f ≡ l
+  lands_so Running f l is raises exits returns = absurd is
+  lands_so (Raising e) f l is raises exits returns = raises e
+  lands_so Exiting f l is raises exits returns = exits
+  lands_so Returning f l is raises exits returns = returns
+
+  -- The bodies go on as a jump passes a frame at which none lands.
+  passes_go :
+      (l : Landing Value) (m : Mode) (s : State) → l ≡ passes_on → IsJump s.mode → Runs w s → Left w s.control → is_leaving s.control ≡ false
+      → AllGoOn (On w) (landed named l m s)
+  passes_go l m s lands is r h stands =
+      subst (λ (there : Landing Value). AllGoOn (On w) (landed named there m s)) (sym lands) (passing s is r h stands)
+
+  -- The run ends as a jump comes out of a Finalize.
+  escapes_go : (l : Landing Value) (m : Mode) (s : State) → l ≡ escapes → AllGoOn (On w) (landed named l m s)
+  escapes_go l m s lands = subst (λ (there : Landing Value). AllGoOn (On w) (landed named there m s)) (sym lands) tt
 
   -- The bodies go on as a jump comes to the end of a call that is not the outermost one (6.5).
   ends_go :
@@ -140,7 +174,7 @@ module _ (w : World) where
       → (IsLast w.behind (frame.Returns actuals references) s.control → ⊥) → AreParts references → Left w (frame.Returns actuals references ∷ s.control)
       → Runs w s
       → AllGoOn (On w) (pass_next named false (landing m (frame.Returns actuals references)) m (unwound named m (frame.Returns actuals references) s))
-  ends_go m actuals references s is on parts (inl ends) r = absurd (on ends)
+  ends_go m actuals references s is on parts (inl (last, none)) r = absurd (on last)
   ends_go Running actuals references s is on parts (inr inner) r = absurd is
   ends_go (Raising e) actuals references s is on parts (inr inner) r = left_goes w s (frame.Returns actuals references) r inner s.mode
   ends_go Exiting actuals references s is on parts (inr inner) r = left_goes w s (frame.Returns actuals references) r inner s.mode
@@ -149,14 +183,34 @@ module _ (w : World) where
 
   -- The bodies go on as a jump comes to a frame.
   jump_goes :
-      (m : Mode) (f : Frame Value) (s : State) → IsJump m → IsJump s.mode → (IsLast w.behind f s.control → ⊥) → AreParts (references_at f)
-      → Left w (f ∷ s.control) → Runs w s → AllGoOn (On w) (pass_next named (is_master f) (landing m f) m (unwound named m f s))
-  jump_goes m (frame.Returns actuals references) s own is on parts h r = ends_go m actuals references s own on parts h r
-  jump_goes Running (frame.Follows cs) s own is on parts h r = passing s is r (h.2)
-  jump_goes (Raising e) (frame.Follows cs) s own is on parts h r = passing s is r (h.2)
-  jump_goes Exiting (frame.Follows cs) s own is on parts h r = passing s is r (h.2)
-  jump_goes Returning (frame.Follows cs) s own is on parts h r = passing s is r (h.2)
-  jump_goes m f s own is on parts h r = pass_goes (is_master f) (landing m f) m s (landing_shuns m f (h.0)) r (h.2) (h.1)
+      (m : Mode) (f : Frame Value) (s : State) → IsJump m → IsJump s.mode → MayJump m (f ∷ s.control) → (IsLast w.behind f s.control → ⊥)
+      → AreParts (references_at f) → Left w (f ∷ s.control) → Runs w s
+      → AllGoOn (On w) (pass_next named (is_master f) (landing m f) m (unwound named m f s))
+  jump_goes m (frame.Returns actuals references) s own is jump on parts h r = ends_go m actuals references s own on parts h r
+  jump_goes m (frame.Elaborates ds fs hs) s own is jump on parts h r = stops_go (frame.Elaborates ds fs hs) m s refl r h.1 h.2
+  jump_goes m frame.Closes s own is jump on parts h r = stops_go frame.Closes m s refl r h.1 h.2
+  jump_goes m (frame.Leaves mode) s own is jump on parts h r =
+      let never : true ≡ false = jump_stands m (frame.Leaves mode ∷ s.control) own jump in absurd (cc)
+  jump_goes m (frame.Follows cs) s own is jump on parts h r =
+      passes_go (landing m (frame.Follows cs)) m s (lands_so m (frame.Follows cs) passes_on own (λ e. refl) refl refl) is r h.2 h.1
+  jump_goes m (frame.Treats v (ends cause) tasks) s own is jump on parts h r =
+      let f : Frame Value = frame.Treats v (ends cause) tasks in
+      passes_go (landing m f) m s (lands_so m f passes_on own (λ e. refl) refl refl) is r h.2 (jump_stands m (f ∷ s.control) own jump)
+  jump_goes m (frame.Treats v (begins by done) tasks) s own is jump on parts h r =
+      let f : Frame Value = frame.Treats v (begins by done) tasks in
+      passes_go (landing m f) m s (lands_so m f passes_on own (λ e. refl) refl refl) is r h.2 (jump_stands m (f ∷ s.control) own jump)
+  jump_goes m (frame.Ends v) s own is jump on parts h r =
+      let f : Frame Value = frame.Ends v in
+      passes_go (landing m f) m s (lands_so m f passes_on own (λ e. refl) refl refl) is r h.2 (jump_stands m (f ∷ s.control) own jump)
+  jump_goes m (frame.GivesBack v cause pool) s own is jump on parts h r =
+      let f : Frame Value = frame.GivesBack v cause pool in
+      passes_go (landing m f) m s (lands_so m f passes_on own (λ e. refl) refl refl) is r h.2 (jump_stands m (f ∷ s.control) own jump)
+  jump_goes m frame.Confines s own is jump on parts h r =
+      escapes_go (landing m frame.Confines) m s (lands_so m frame.Confines escapes own (λ e. refl) refl refl)
+  jump_goes m (frame.Declares x) s own is jump on parts h r =
+      landed_goes (landing m (frame.Declares x)) m s (landing_shuns m (frame.Declares x) h.0) r
+      (declares_out w.apart w.lower x w.upper (λ (ns : List Master). LeftIn w ns s.control) h.2) h.1
+  jump_goes m f s own is jump on parts h r = landed_goes (landing m f) m s (landing_shuns m f h.0) r h.2 h.1
 
   -- The first frame is not the end of the outermost body.
   abbrev pub GoesFurther : List (Frame Value) → Type 0
@@ -171,19 +225,19 @@ module _ (w : World) where
   -- The bodies go on by a step in any mode.
   pub step_goes :
       (tds : List TypeDefinition) → map type_form tds ≡ w.p.types → AreApart w.p tds w.shuns w.apart → (m : Mode) (k : List (Frame Value)) (s : State) → Sound w s
-      → GoesFurther k → FirstTakesNone k s.masters → FirstIsRooted w.p.types (variables_in w) m k → FirstRefers k → Runs w s → Left w k
-      → OperandsSeek w s.heap m k (operands s) → AllGoOn (On w) (next tds w.p.bodies (record s { mode = m; control = k }))
+      → GoesFurther k → FirstHousesIts k s.heap s.masters → FirstIsRooted w.p.types (variables_in w) m k → FirstRefers k → Runs w s → Left w k
+      → MayJump m k → OperandsSeek w s.heap m k (operands s) → AllGoOn (On w) (next tds w.p.bodies (record s { mode = m; control = k }))
   unfolding next
-  step_goes tds known are_apart Running [] s sound on none root parts r h seeks = tt
-  step_goes tds known are_apart Running (f ∷ k) s sound on none root parts r h seeks =
-      frame_goes w tds known are_apart f (record s { mode = Running; control = k }) sound on parts h none root
-      (newest_seeks w s.heap (f ∷ k) (operands s) seeks) r
-  step_goes tds known are_apart (Raising e) [] s sound on none root parts r h seeks = tt
-  step_goes tds known are_apart (Raising e) (f ∷ k) s sound on none root parts r h seeks =
-      jump_goes (Raising e) f (record s { mode = Raising e; control = k }) tt tt on parts h r
-  step_goes tds known are_apart Exiting [] s sound on none root parts r h seeks = tt
-  step_goes tds known are_apart Exiting (f ∷ k) s sound on none root parts r h seeks =
-      jump_goes Exiting f (record s { mode = Exiting; control = k }) tt tt on parts h r
-  step_goes tds known are_apart Returning [] s sound on none root parts r h seeks = tt
-  step_goes tds known are_apart Returning (f ∷ k) s sound on none root parts r h seeks =
-      jump_goes Returning f (record s { mode = Returning; control = k }) tt tt on parts h r
+  step_goes tds known are_apart Running [] s sound on houses root parts r h jump seeks = tt
+  step_goes tds known are_apart Running (f ∷ k) s sound on houses root parts r h jump seeks =
+      frame_goes w tds known are_apart f (record s { mode = Running; control = k }) sound on parts h houses root
+      (newest_seeks w s.heap (f ∷ k) (operands s) seeks) refl r
+  step_goes tds known are_apart (Raising e) [] s sound on houses root parts r h jump seeks = tt
+  step_goes tds known are_apart (Raising e) (f ∷ k) s sound on houses root parts r h jump seeks =
+      jump_goes (Raising e) f (record s { mode = Raising e; control = k }) tt tt jump on parts h r
+  step_goes tds known are_apart Exiting [] s sound on houses root parts r h jump seeks = tt
+  step_goes tds known are_apart Exiting (f ∷ k) s sound on houses root parts r h jump seeks =
+      jump_goes Exiting f (record s { mode = Exiting; control = k }) tt tt jump on parts h r
+  step_goes tds known are_apart Returning [] s sound on houses root parts r h jump seeks = tt
+  step_goes tds known are_apart Returning (f ∷ k) s sound on houses root parts r h jump seeks =
+      jump_goes Returning f (record s { mode = Returning; control = k }) tt tt jump on parts h r

@@ -16,7 +16,7 @@ use Rattle.ada_meaning.specs.declared.state.Value.{Value}
 use Rattle.ada_meaning.specs.declared.state.Value.TheVariants.{Null, Names, Scalar, Part}
 use Rattle.ada_meaning.specs.Frame.{Frame}
 use Rattle.ada_meaning.specs.Frame as frame
-use Rattle.ada_meaning.specs.State.{Activation}
+use Rattle.ada_meaning.specs.State.{Activation, Master}
 use Rattle.ada_meaning.specs.Step.{held, operating, procedure_of, older, places}
 use Rattle.ada_meaning.specs.Named.{Object, State, named, next, object_at}
 use Rattle.ada_typed.specs.Holding.{Cells, HasKind, cells_of, seen_now}
@@ -26,14 +26,14 @@ use Rattle.ada_typed.proofs.Operators.{and_left, and_right}
 use Rattle.ada_typed.proofs.Runs.{last_typed, typed_filled, typed_holds}
 use Rattle.ada_typed.proofs.Values.{OperandKind}
 use Rattle.ada_untouched.specs.Untouched.{Untouched}
-use Rattle.ada_reaching.specs.Reaching.{IsElsewhere, IsGhost, IsReaching, OperandSeeks}
+use Rattle.ada_reaching.specs.Reaching.{AreLow, IsElsewhere, IsGhost, IsReaching, OperandSeeks}
 use Rattle.ada_reaching.specs.Apart.{Apart}
 use Rattle.ada_reaching.specs.Law.{AreApart, IsWithin, GoesOn, AllGoOn, none_hidden, ShunnedObjectsAreUntouched}
 use Rattle.ada_reaching.specs.Forms.{body_shuns}
 use Rattle.ada_reaching.proofs.Begins.{elaborates_shuns}
 use Rattle.ada_reaching.proofs.Calls.{AreParts}
 use Rattle.ada_reaching.proofs.Elsewhere.{given_places_elsewhere}
-use Rattle.ada_reaching.proofs.Going.{World, Runs}
+use Rattle.ada_reaching.proofs.Going.{World, Runs, may_jump}
 use Rattle.ada_reaching.proofs.Jumps.{FirstIsRooted, FirstRefers, GoesFurther, step_goes}
 use Rattle.ada_reaching.proofs.Paths.{IsSound}
 use Rattle.ada_reaching.proofs.Rooted.{FrameIsRooted, frame_rooted}
@@ -142,25 +142,31 @@ none_sought types shuns apart ghosts heap (Raising e) k = tt
 none_sought types shuns apart ghosts heap Exiting k = tt
 none_sought types shuns apart ghosts heap Returning k = tt
 
--- The body of an operation begins that shuns some access types (7.6), for a part of an object that is no ghost: it runs so, in front of what is behind it.
+-- The body of an operation begins that shuns some access types (7.6), for a part of an object that is no ghost: it runs so, in front of what is behind it, and
+-- in masters of its own behind those that were entered before.
 pub operation_reaches :
     (p : ProgramForm) (shuns : ℕ → Bool) (apart : Apart) (ghosts unnamed : Id → Bool) (procedure : ℕ) (b : BodyForm) (reference : Value)
     (behind : List (Frame Value)) (s : State)
     → slice_get p.bodies procedure ≡ Some b → body_shuns p.types shuns apart b ≡ true
     → ((o : Id) → ghosts o ≡ true → IsGhost p.types shuns (unnamed o) (object_at s.heap o)) → ((o : Id) → unnamed o ≡ true → ghosts o ≡ true)
-    → IsElsewhere ghosts unnamed reference → IsReaching p shuns apart ghosts unnamed behind (operating named procedure b reference behind s)
-operation_reaches p shuns apart ghosts unnamed procedure b reference behind s is shun there are other =
+    → AreLow ghosts s.masters s.heap
+    → IsElsewhere ghosts unnamed reference → IsReaching p shuns apart ghosts unnamed behind s.masters (operating named procedure b reference behind s)
+operation_reaches p shuns apart ghosts unnamed procedure b reference behind s is shun there are low other =
     let begins : Frame Value = frame.Elaborates b.declarations b.statements b.handlers in
     record {
       ghosts_there = there;
       are_ghosts = are;
+      low = low;
       places = given_places_elsewhere ghosts unnamed (reference ∷ []) b.variables (other, tt);
       operands = tt;
+      upper = record { number = s.next; items = [] } ∷ [];
+      masters = refl;
       control = (
         elaborates_shuns p shuns apart ghosts procedure b is shun,
         refl,
-        inl refl,
+        (tt, inl (refl, refl)),
       );
+      jumps = may_jump s.mode (begins ∷ frame.Returns [] [] ∷ behind) refl;
       seeks = none_sought p.types shuns apart ghosts s.heap s.mode (begins ∷ frame.Returns [] [] ∷ behind);
     }
 
@@ -173,11 +179,11 @@ further w (f ∷ k) on = on
 pub stays_reaching :
     (program : Program) → IsWellFormed (program_form program) → (shuns : ℕ → Bool) (apart : Apart)
     → AreApart (program_form program) program.types.items shuns apart → (ghosts unnamed : Id → Bool)
-    (behind : List (Frame Value)) (s : State) → typed.Typed (program_form program) s → IsReaching (program_form program) shuns apart ghosts unnamed behind s
-    → IsWithin behind s.control s.masters
+    (behind : List (Frame Value)) (lower : List Master) (s : State) → typed.Typed (program_form program) s
+    → IsReaching (program_form program) shuns apart ghosts unnamed behind lower s → IsWithin behind s
     → Untouched none_hidden ghosts s
-    × AllGoOn (GoesOn (program_form program) shuns apart ghosts unnamed behind s.heap) (next program.types.items (body_forms program) s)
-stays_reaching program well shuns apart are_apart ghosts unnamed behind s typing reaching within =
+    × AllGoOn (GoesOn (program_form program) shuns apart ghosts unnamed behind lower s.heap) (next program.types.items (body_forms program) s)
+stays_reaching program well shuns apart are_apart ghosts unnamed behind lower s typing reaching within =
     let p = program_form program in
     let own = seen_now p s in
     let procedure = procedure_of s.activations in
@@ -188,11 +194,14 @@ stays_reaching program well shuns apart are_apart ghosts unnamed behind s typing
       ghosts = ghosts;
       unnamed = unnamed;
       behind = behind;
+      lower = lower;
       before = s.heap;
       there = reaching.ghosts_there;
       are = reaching.are_ghosts;
+      low = reaching.low;
       types_fit = well.types_fit;
       procedure = procedure;
+      upper = reaching.upper;
       suspended = older s.activations;
     } in
     let fits : SeenFits own = seen_fits p well procedure in
@@ -211,16 +220,18 @@ stays_reaching program well shuns apart are_apart ghosts unnamed behind s typing
     let runs : Runs w s = record {
       runs = refl;
       waits = refl;
+      owns = reaching.masters;
       places = reaching.places;
       operands = reaching.operands;
       same = λ o is. refl;
     } in (
-      first_open w s sound runs s.mode s.control reaching.control root reaching.seeks within.takes,
-      step_goes w program.types.items refl are_apart s.mode s.control s sound (further w s.control within.on) within.takes root
-          (first_refers p (cells_of s.heap) w procedure s.control (older s.activations) typing.waiting) runs reaching.control reaching.seeks,
+      first_open w s sound runs s.mode s.control reaching.control root reaching.seeks,
+      step_goes w program.types.items refl are_apart s.mode s.control s sound (further w s.control within.on) within.houses root
+          (first_refers p (cells_of s.heap) w procedure s.control (older s.activations) typing.waiting) runs reaching.control reaching.jumps
+          reaching.seeks,
     )
 
 -- The law.
 pub shunned_untouched : ShunnedObjectsAreUntouched
-shunned_untouched program well input events s run shuns apart are_apart ghosts unnamed behind reaching within =
-    stays_reaching program well shuns apart are_apart ghosts unnamed behind s (last_typed program well input events s run) reaching within
+shunned_untouched program well input events s run shuns apart are_apart ghosts unnamed behind lower reaching within =
+    stays_reaching program well shuns apart are_apart ghosts unnamed behind lower s (last_typed program well input events s run) reaching within

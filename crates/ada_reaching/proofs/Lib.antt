@@ -6,6 +6,10 @@ pub mod Selections
 pub mod Elsewhere
 -- how states change
 pub mod Going
+-- masters of the bodies' own
+pub mod Masters
+-- the members of collections
+pub mod Members
 -- paths
 pub mod Paths
 -- paths that lead somewhere

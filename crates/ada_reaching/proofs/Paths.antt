@@ -28,11 +28,11 @@ use Rattle.ada_typed.specs.Holding.{HasKind, cells_of}
 use Rattle.ada_typed.proofs.Evaluations.{cell_at, own_access}
 use Rattle.ada_typed.proofs.Records.{begins}
 use Rattle.ada_typed.proofs.Values.{AreFilled, filled_at}
-use Rattle.ada_reaching.specs.Reaching.{IsElsewhere, AreElsewhere, Seeks}
+use Rattle.ada_reaching.specs.Reaching.{IsElsewhere, AreElsewhere, Seeks, is_leaving}
 use Rattle.ada_reaching.specs.Forms.{may_follow, selectors_shun}
 use Rattle.ada_reaching.specs.Law.{GhostsStay, AllGoOn, none_hidden}
 use Rattle.ada_reaching.proofs.Elsewhere.{AccessedAreNamed, elsewhere_at, cell_elsewhere, held_elsewhere, whole_elsewhere}
-use Rattle.ada_reaching.proofs.Going.{World, variables_in, Runs, Left, On, Goes, shunned_there, declared_there, object_there, anew_seeks, sought, gives, jumps}
+use Rattle.ada_reaching.proofs.Going.{World, variables_in, Runs, Left, On, Goes, anew_quiet, anew_stands, shunned_there, declared_there, object_there, anew_seeks, sought, gives, jumps_out}
 use Rattle.ada_reaching.proofs.Selections.{IsRooted, begun_somewhere, reached_fit, shun_first, shun_behind, shun_before, shun_holder, last_kind, LeadsShunning, seeks_weaker, followed, valued, held_in, named_kind, named_access}
 
 -- What objects and variables hold is of its kind.
@@ -133,7 +133,7 @@ module _ (w : World) where
 
   module _ (heap : List Object) (same : GhostsStay w.ghosts w.before heap) where
     -- An object is no ghost, if it is none where it is a ghost.
-    by_ghost : (o : Id) (b : Bool) → w.ghosts o ≡ b → (w.ghosts o ≡ true → ⊥) → w.ghosts o ≡ false
+    pub by_ghost : (o : Id) (b : Bool) → w.ghosts o ≡ b → (w.ghosts o ≡ true → ⊥) → w.ghosts o ≡ false
     by_ghost o true is never = absurd (never is)
     by_ghost o false is never = is
 
@@ -282,18 +282,19 @@ module _ (w : World) where
   -- The bodies go on once a path has found a value.
   reading_goes :
       (cs : List ℕ) (v : Value) (kind : ComponentKind) (s : State) → Fine s → kind_fits w.p.types kind ≡ true → HasKind w.p.types (cells_of s.heap) (held_kind kind) v
-      → LeadsShunning w.p.types w.shuns w.apart (Some (held_kind kind)) cs s.control → Runs w s → Left w s.control → On w (reading named cs v s)
-  reading_goes [] v kind s fine fits has leads r h =
+      → LeadsShunning w.p.types w.shuns w.apart (Some (held_kind kind)) cs s.control → Runs w s → Left w s.control → is_leaving s.control ≡ false
+      → On w (reading named cs v s)
+  reading_goes [] v kind s fine fits has leads r h stands =
       let other = component_elsewhere s.heap r.same kind v fits has in
-      sought w v s other r h
+      sought w v s other r h stands
       (λ o x e at.
       let named_so = named_kind w.p.types s.heap fine kind o x (subst (λ (u : Value). HasKind w.p.types (cells_of s.heap) (held_kind kind) u) e has) at in
       seeks_weaker w.p.types w.shuns w.apart (not (w.shuns x.cell.access)) (not (w.ghosts o)) x.cell.access s.control
       (may_seek s.heap r.same o x (subst (λ (u : Value). IsElsewhere w.ghosts w.unnamed u) e other) at)
       (leads.1 x.cell.access (ap (λ (from : VariableKind). value_access (Some from)) named_so)))
-  reading_goes (c ∷ cs) v kind s fine fits has leads r h =
+  reading_goes (c ∷ cs) v kind s fine fits has leads r h stands =
       let other = component_elsewhere s.heap r.same kind v fits has in
-      sought w v (at (frame.Follows (c ∷ cs) ∷ s.control) s) other r (tt, tt, h)
+      sought w v (at (frame.Follows (c ∷ cs) ∷ s.control) s) other r (tt, stands, h) refl
       (λ o x e at.
       let named_so = named_kind w.p.types s.heap fine kind o x (subst (λ (u : Value). HasKind w.p.types (cells_of s.heap) (held_kind kind) u) e has) at in
       let own = subst (λ (from : VariableKind). LeadsShunning w.p.types w.shuns w.apart (Some from) (c ∷ cs) s.control) named_so leads in
@@ -307,30 +308,30 @@ module _ (w : World) where
   component_goes :
       (v : Value) (c : ℕ) (cs : List ℕ) (o : Id) (x : Object) (found : Option Value) (s : State) → Fine s → object_at s.heap o ≡ Some x
       → slice_get x.cell.values c ≡ found → LeadsShunning w.p.types w.shuns w.apart (kind_among (reached_components w.p.types x.cell.access) c) cs s.control
-      → Runs w s → Left w s.control → AllGoOn (On w) (component_next named v cs found s)
-  component_goes v c cs o x None s fine there is leads r h = tt
-  component_goes v c cs o x (Some u) s fine there is leads r h =
+      → Runs w s → Left w s.control → is_leaving s.control ≡ false → AllGoOn (On w) (component_next named v cs found s)
+  component_goes v c cs o x None s fine there is leads r h stands = tt
+  component_goes v c cs o x (Some u) s fine there is leads r h stands =
       let own = held_in w.p.types s.heap fine o x c u there is in
       reading_goes cs u own.0 s fine (own.3 w.types_fit) own.2
-      (subst (λ (kind : Option VariableKind). LeadsShunning w.p.types w.shuns w.apart kind cs s.control) own.1 leads) r h
+      (subst (λ (kind : Option VariableKind). LeadsShunning w.p.types w.shuns w.apart kind cs s.control) own.1 leads) r h stands
 
   -- So it is, by what is found of the object.
   follow_goes :
       (v : Value) (c : ℕ) (cs : List ℕ) (found : Found (Cell Value)) (s : State) → Fine s → look s.heap v ≡ found → StepShuns s v c cs → Runs w s
-      → Left w s.control → AllGoOn (On w) (follow_next named v c cs found s)
-  follow_goes v c cs on_null s fine is leads r h = jumps w (Raising ConstraintError) s r h
-  follow_goes v c cs on_gone s fine is leads r h = tt
-  follow_goes v c cs on_other s fine is leads r h = tt
-  follow_goes v c cs (finds cell) s fine is leads r h =
+      → Left w s.control → is_leaving s.control ≡ false → AllGoOn (On w) (follow_next named v c cs found s)
+  follow_goes v c cs on_null s fine is leads r h stands = jumps_out w (Raising ConstraintError) s r h stands
+  follow_goes v c cs on_gone s fine is leads r h stands = tt
+  follow_goes v c cs on_other s fine is leads r h stands = tt
+  follow_goes v c cs (finds cell) s fine is leads r h stands =
       let f = found_there s.heap v cell is in
       component_goes v c cs f.name f.object (slice_get cell.values c) s fine f.there (ap (λ (own : Cell Value). slice_get own.values c) f.own)
-      (leads f.name f.object f.named_so f.there) r h
+      (leads f.name f.object f.named_so f.there) r h stands
 
   -- The bodies go on as a component is read of the object that a value names.
   pub step_goes :
-      (v : Value) (c : ℕ) (cs : List ℕ) (s : State) → Fine s → StepShuns s v c cs → Runs w s → Left w s.control
+      (v : Value) (c : ℕ) (cs : List ℕ) (s : State) → Fine s → StepShuns s v c cs → Runs w s → Left w s.control → is_leaving s.control ≡ false
       → AllGoOn (On w) (follow_next named v c cs (look s.heap v) s)
-  step_goes v c cs s fine leads r h = follow_goes v c cs (look s.heap v) s fine refl leads r h
+  step_goes v c cs s fine leads r h stands = follow_goes v c cs (look s.heap v) s fine refl leads r h stands
 
   -- The bodies go on as a path is followed from a variable.
   pub named_goes :
@@ -343,23 +344,24 @@ module _ (w : World) where
       step_goes (whole v) (inside v c) cs s sound.filled
       (λ o y e there.
       subst (λ (kind : Option VariableKind). LeadsShunning w.p.types w.shuns w.apart kind cs s.control) (sym (start.lies o y e there))
-      (begun_shun s x c cs to start shun, λ u is. anew_seeks w (not (w.shuns u)) s.control u anew)) r h
+      (begun_shun s x c cs to start shun, λ u is. anew_seeks w (not (w.shuns u)) s.control u (anew_quiet s.control anew))) r h (anew_stands s.control anew)
 
   -- The bodies go on as the object is found in which the last component of a path lies.
   pub holder_goes :
       (c : ℕ) (cs : List ℕ) (x : ℕ) (to : VariableKind) (frame_of : ℕ → Frame Value) (s : State) → Sound s → IsRooted w.p.types (variables_in w) x (c ∷ cs) to
       → selectors_shun w.p.types w.shuns (variable_kind (variables_in w) x) (c ∷ cs) ≡ true → Runs w s → ((n : ℕ) → Left w (frame_of n ∷ s.control))
+      → ((n : ℕ) → is_leaving (frame_of n ∷ s.control) ≡ false)
       → ((may : Bool) (u n : ℕ) → may ≡ true → kind_among (reached_components w.p.types u) n ≡ Some to
       → Seeks w.p.types w.shuns w.apart may u (frame_of n ∷ s.control))
       → AllGoOn (On w) (holder_next named c cs x frame_of s)
-  holder_goes c [] x to frame_of s sound root shun r each seeks =
+  holder_goes c [] x to frame_of s sound root shun r each stands seeks =
       let v = held named s x in
       let start = begun w.p.types (variables_in w) s.heap (places s) sound x c [] to root in
       let sight = begun_sight s x c [] to sound r root shun in
-      sought w (whole v) (at (frame_of (inside v c) ∷ s.control) s) (held_whole s x r) r (each (inside v c))
+      sought w (whole v) (at (frame_of (inside v c) ∷ s.control) s) (held_whole s x r) r (each (inside v c)) (stands (inside v c))
       (λ o y e there.
       seeks (not (w.ghosts o)) y.cell.access (inside v c) (ap not (subst (λ (u : Value). IsInSight w.ghosts u) e sight)) (start.lies o y e there ∙ start.leads))
-  holder_goes c (d ∷ cs) x to frame_of s sound root shun r each seeks =
+  holder_goes c (d ∷ cs) x to frame_of s sound root shun r each stands seeks =
       let v = held named s x in
       let start = begun w.p.types (variables_in w) s.heap (places s) sound x c (d ∷ cs) to root in
       let own = begun_shun s x c (d ∷ cs) to start shun in
@@ -374,17 +376,17 @@ module _ (w : World) where
             seeks (not (w.shuns u)) u last (followed w.shuns kind u is (shun_holder w.p.types w.shuns (Some start.kind) d cs own))
             (ap (λ (access : Option ℕ). kind_behind w.p.types access last) (sym (valued kind u is))
             ∙ last_kind w.p.types w.shuns (Some start.kind) d cs ∙ start.leads),
-      )) r (each last)
+      )) r (each last) (stands last)
 
   -- The bodies go on as the object is found in which a record lies.
   pub record_goes :
       (q : RecordPathForm) (to : VariableKind) (frame_of : Place → Frame Value) (s : State) → Sound s
       → IsRooted w.p.types (variables_in w) q.object.root q.object.selectors to
       → selectors_shun w.p.types w.shuns (variable_kind (variables_in w) q.object.root) q.object.selectors ≡ true → may_follow w.shuns (Some to) ≡ true → Runs w s
-      → ((place : Place) → Left w (frame_of place ∷ s.control))
+      → ((place : Place) → Left w (frame_of place ∷ s.control)) → ((place : Place) → is_leaving (frame_of place ∷ s.control) ≡ false)
       → ((may : Bool) (u : ℕ) (place : Place) → may ≡ true → Seeks w.p.types w.shuns w.apart may u (frame_of place ∷ s.control))
       → AllGoOn (On w) (record_holder_next named q frame_of s)
-  record_goes q to frame_of s sound root shun may r each seeks = by_selectors q.object.selectors (place_in named v q.object.selectors q) root shun
+  record_goes q to frame_of s sound root shun may r each stands seeks = by_selectors q.object.selectors (place_in named v q.object.selectors q) root shun
     where
       v : Value
       v = held named s q.object.root
@@ -396,7 +398,7 @@ module _ (w : World) where
       by_selectors [] place begins shun =
           let kind : Some begins.from ≡ Some to = begins.leads in
           let sight = held_sight s q.object.root begins.from sound r begins.held (ap (may_follow w.shuns) kind ∙ may) in
-          sought w (whole v) (at (frame_of place ∷ s.control) s) (held_whole s q.object.root r) r (each place)
+          sought w (whole v) (at (frame_of place ∷ s.control) s) (held_whole s q.object.root r) r (each place) (stands place)
           (λ o y e there. seeks (not (w.ghosts o)) y.cell.access place (ap not (subst (λ (u : Value). IsInSight w.ghosts u) e sight)))
       by_selectors (c ∷ cs) place begins shun =
           let start = begun w.p.types (variables_in w) s.heap (places s) sound q.object.root c cs to begins in
@@ -406,4 +408,4 @@ module _ (w : World) where
             begun_shun s q.object.root c cs to start shun,
             λ u is. seeks (not (w.shuns u)) u place
                 (followed w.shuns (selectors_kind w.p.types (Some start.kind) cs) u is (ap (may_follow w.shuns) start.leads ∙ may)),
-          )) r (each place)
+          )) r (each place) (stands place)

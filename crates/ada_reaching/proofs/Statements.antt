@@ -1,26 +1,35 @@
 -- Statements of a body that shuns some access types.
 
-use Rattle.std.proofs.Common.{◌≡◌, ℕ, Bool, true, false, ◌&&◌, List, [], ◌∷◌, map, Option, Some, None, refl, sym, ap, ◌∙◌}
+use Rattle.std.proofs.Common.{◌≡◌, ℕ, Bool, true, false, ◌&&◌, List, [], ◌∷◌, map, Option, Some, None, refl, sym, ap, ◌∙◌, subst}
 use Rattle.std.specs.Prelude.{ℤ, pos, ◌+ℤ◌, int_le, if◌then◌else◌}
-use Rattle.std.specs.List.{list_all, slice_get}
+use Rattle.std.specs.List.{list_all, slice_get, slice_set}
 use Rattle.std.proofs.lemmas.Bool.{and_from, and_parts}
 use Rattle.ada_program.specs.declared.program.TypeDefinition.{TypeDefinition}
 use Rattle.ada_program.specs.Form.{ExpressionForm, StmtForm, skips, assigns, assigns_record, frees, gets, writes, writes_text, chooses, repeats, counts, exits, calls, returns, raises, encloses, StmtsForm, no_stmts, a_stmt, BranchesForm, otherwise, a_branch, HandlersForm, DeclarationForm, creates_pool, collects, declares, declares_record}
 use Rattle.ada_program.specs.ProgramForm.{type_form}
+use Rattle.ada_program.specs.Typed.{reached_of, words_of}
+use Rattle.ada_parts.specs.declared.tasks.Direction.TheVariants.{PartsFirst}
+use Rattle.ada_meaning.specs.declared.event.Birth.TheVariants.{Creation}
 use Rattle.ada_meaning.specs.declared.state.Mode.TheVariants.{Raising, Exiting, Returning}
+use Rattle.ada_meaning.specs.declared.state.Value.{Value}
 use Rattle.ada_meaning.specs.Frame as frame
-use Rattle.ada_meaning.specs.Step.{moves, has_parts, at, entered, put, branches_next, decided_next, turn_next, repeats_next, turned_next, count_turn_next, ranges_next, exit_next, exited_next, stmt_next, stmts_next, line_next, declarations_next}
-use Rattle.ada_meaning.specs.Named.{State, named, an_integer}
+use Rattle.ada_meaning.specs.State.{Item, Master, height, record_object}
+use Rattle.ada_meaning.specs.Step.{moves, all_tasks, has_parts, at, entered, initial_values, made, places, put, record_cell, with_places, branches_next, decided_next, turn_next, repeats_next, turned_next, count_turn_next, ranges_next, exit_next, exited_next, stmt_next, stmts_next, line_next, declarations_next}
+use Rattle.ada_meaning.specs.Named.{State, named, an_integer, create, created}
 use Rattle.ada_meaning.specs.Event.{Quiet}
-use Rattle.ada_reaching.specs.Forms.{may_follow, may_end, record_path_shuns, expression_shuns, condition_shuns, item_shuns, actual_shuns, declaration_shuns, declarations_shun, statement_shuns, statements_shun, branches_shun, handlers_shun}
-use Rattle.ada_reaching.specs.Law.{AreApart}
-use Rattle.ada_reaching.proofs.Going.{World, variables_in, Goes, stays, jumps, put_runs}
-use Rattle.ada_reaching.proofs.Paths.{Sound}
+use Rattle.ada_reaching.specs.Apart.{IsLeftOf, whole}
+use Rattle.ada_reaching.specs.Reaching.{InMasters, begins_anew}
+use Rattle.ada_reaching.specs.Forms.{may_declare, may_follow, may_end, record_path_shuns, expression_shuns, condition_shuns, item_shuns, actual_shuns, declaration_shuns, declarations_shun, statement_shuns, statements_shun, branches_shun, handlers_shun}
+use Rattle.ada_reaching.specs.Law.{AreApart, AllGoOn}
+use Rattle.ada_reaching.proofs.Going.{World, variables_in, IsRun, Runs, LeftIn, Left, On, Goes, created_run, stays, jumps, put_runs}
+use Rattle.ada_reaching.proofs.Masters.{InOwn, declares_in, entered_run, height_run, own_in, owned_run}
+use Rattle.ada_reaching.proofs.Paths.{Sound, new_elsewhere, new_in_sight}
 use Rattle.ada_reaching.proofs.Assigns.{assign_goes, record_assign_goes, gets_goes}
 use Rattle.ada_reaching.proofs.Calls.{call_goes}
 use Rattle.ada_reaching.proofs.Frees.{frees_go}
 use Rattle.ada_reaching.proofs.Rooted.{StatementIsRooted, StatementsAreRooted}
 use Rattle.ada_reaching.proofs.Selections.{bare_record}
+use Rattle.ada_reaching.proofs.Treats.{starting_left}
 
 module _ (w : World) where
   -- An expression shuns the types.
@@ -30,6 +39,26 @@ module _ (w : World) where
   -- So it is with statements.
   abbrev All : StmtsForm → Type 0
   All fs = statements_shun w.p.types w.shuns w.apart (variables_in w) fs ≡ true
+
+  -- The declarations that are left of a master shun the types, and so do the statements behind them and their handlers.
+  abbrev elaboration_shuns : List DeclarationForm → StmtsForm → HandlersForm → Bool
+  elaboration_shuns ds fs hs =
+      declarations_shun w.p.types w.shuns w.apart (variables_in w) ds && statements_shun w.p.types w.shuns w.apart (variables_in w) fs
+      && handlers_shun w.p.types w.shuns w.apart (variables_in w) hs
+
+  -- So does the first of these declarations, and what is behind it.
+  elaboration_parts :
+      (d : DeclarationForm) (ds : List DeclarationForm) (fs : StmtsForm) (hs : HandlersForm) → elaboration_shuns (d ∷ ds) fs hs ≡ true
+      → (declaration_shuns w.p.types w.shuns w.apart (variables_in w) d ≡ true) × (elaboration_shuns ds fs hs ≡ true)
+  elaboration_parts d ds fs hs shun =
+      let one = declaration_shuns w.p.types w.shuns w.apart (variables_in w) d in
+      let others = declarations_shun w.p.types w.shuns w.apart (variables_in w) ds in
+      let inner = statements_shun w.p.types w.shuns w.apart (variables_in w) fs in
+      let handled = handlers_shun w.p.types w.shuns w.apart (variables_in w) hs in
+      let three = and_parts ((one && others) && inner) handled shun in
+      let two = and_parts (one && others) inner three.0 in
+      let both = and_parts one others two.0 in
+      (both.0, and_from (others && inner) handled (and_from others inner both.1 two.1) three.1)
 
   -- The bodies go on as a branch comes next.
   branches_go :
@@ -127,13 +156,13 @@ module _ (w : World) where
   exit_goes :
       (condition : Option ExpressionForm) (s : State) → condition_shuns w.p.types w.shuns w.apart (variables_in w) condition ≡ true
       → Goes w s (exit_next named condition s)
-  exit_goes None s shun r h anew = jumps w Exiting s r h
+  exit_goes None s shun r h anew = jumps w Exiting s r h anew
   exit_goes (Some e) s shun r h anew = stays w (at (frame.Computes e ∷ frame.Exits ∷ s.control) s) r (shun, refl, (tt, anew, h)) refl
 
   -- The bodies go on once the condition of an exit is known.
   pub exited_goes : (truth : Option Bool) (s : State) → Goes w s (exited_next named truth s)
   exited_goes None s r h anew = tt
-  exited_goes (Some true) s r h anew = jumps w Exiting s r h
+  exited_goes (Some true) s r h anew = jumps w Exiting s r h anew
   exited_goes (Some false) s r h anew = stays w s r h anew
 
   -- The bodies go on as a line is written.
@@ -182,10 +211,12 @@ module _ (w : World) where
     stmt_goes (calls procedure actuals) s sound shun root r h anew =
         let two = and_parts (list_all (actual_shuns w.p.types w.shuns w.apart (variables_in w)) actuals) (w.apart.calls procedure) shun in
         call_goes w tds are_apart procedure actuals (slice_get w.p.bodies procedure) s refl two.0 two.1 r h anew
-    stmt_goes (returns spot) s sound shun root r h anew = jumps w Returning s r h
-    stmt_goes (raises e) s sound shun root r h anew = jumps w (Raising e) s r h
+    stmt_goes (returns spot) s sound shun root r h anew = jumps w Returning s r h anew
+    stmt_goes (raises e) s sound shun root r h anew = jumps w (Raising e) s r h anew
     stmt_goes (encloses ds fs hs) s sound shun root r h anew =
-        stays w (entered (at (frame.Elaborates ds fs hs ∷ s.control) s)) r (shun, anew, h) refl
+        let fresh : Master = record { number = s.next; items = [] } in
+        stays (record w { upper = fresh ∷ w.upper }) (entered (at (frame.Elaborates ds fs hs ∷ s.control) s))
+        (entered_run w s.activations s.masters s.heap r fresh) (shun, anew, (tt, h)) refl
 
     -- The bodies go on as the first of some statements begins.
     pub stmts_go :
@@ -196,27 +227,56 @@ module _ (w : World) where
         let two = and_parts (statement_shuns w.p.types w.shuns w.apart (variables_in w) f) (statements_shun w.p.types w.shuns w.apart (variables_in w) fs) all in
         stmt_goes f (at (frame.Does fs ∷ s.control) s) sound two.0 root r (two.1, anew, h) refl
 
-  -- The bodies go on as a declaration is elaborated, or the statements behind the last one come.
-  pub declarations_go :
-      (tds : List TypeDefinition) (ds : List DeclarationForm) (fs : StmtsForm) (hs : HandlersForm) (s : State)
-      → (declarations_shun w.p.types w.shuns w.apart (variables_in w) ds && statements_shun w.p.types w.shuns w.apart (variables_in w) fs
-      && handlers_shun w.p.types w.shuns w.apart (variables_in w) hs) ≡ true
-      → Goes w s (declarations_next named tds ds fs hs s)
-  declarations_go tds [] fs hs s shun r h anew =
-      let three = and_parts (true && statements_shun w.p.types w.shuns w.apart (variables_in w) fs)
-      (handlers_shun w.p.types w.shuns w.apart (variables_in w) hs) shun in
-      stays w (at (frame.Does fs ∷ frame.Handles hs ∷ frame.Closes ∷ s.control) s) r
-      ((and_parts true (statements_shun w.p.types w.shuns w.apart (variables_in w) fs) three.0).1, refl, (three.1, refl, (tt, anew, h))) refl
-  declarations_go tds (creates_pool pool ∷ ds) fs hs s shun r h anew = absurd (cc)
-  declarations_go tds (collects access ∷ ds) fs hs s shun r h anew = absurd (cc)
-  declarations_go tds (declares x right ∷ ds) fs hs s shun r h anew =
-      let one = declaration_shuns w.p.types w.shuns w.apart (variables_in w) (declares x right) in
-      let others = declarations_shun w.p.types w.shuns w.apart (variables_in w) ds in
-      let inner = statements_shun w.p.types w.shuns w.apart (variables_in w) fs in
-      let handled = handlers_shun w.p.types w.shuns w.apart (variables_in w) hs in
-      let three = and_parts ((one && others) && inner) handled shun in
-      let two = and_parts (one && others) inner three.0 in
-      let declared = and_parts one others two.0 in
-      stays w (at (frame.Evaluates right ∷ frame.Declares x ∷ frame.Elaborates ds fs hs ∷ s.control) s) r
-      (declared.0, refl, (tt, refl, (and_from (others && inner) handled (and_from others inner declared.1 two.1) three.1, anew, h))) refl
-  declarations_go tds (declares_record x object_type initial ∷ ds) fs hs s shun r h anew = absurd (cc)
+  module _ (tds : List TypeDefinition) (own : w.apart.definitions ≡ tds) where
+    -- The bodies go on as a record object is there, which their innermost master owns, and is initialized next (3.3.1, 7.6).
+    made_goes :
+        (x t : ℕ) (values : List Value) (ds : List DeclarationForm) (fs : StmtsForm) (hs : HandlersForm) (s : State) (upper : List Master) → w.upper ≡ upper
+        → may_declare w.apart t ≡ true → elaboration_shuns ds fs hs ≡ true → InOwn w.apart w.lower upper (λ (ns : List Master). LeftIn w ns s.control)
+        → Runs w s → begins_anew s.control ≡ true
+        → On w (made named tds x t Creation values (at (frame.Elaborates ds fs hs ∷ s.control) s))
+    made_goes x t values ds fs hs s [] is may shun left r anew = absurd left
+    made_goes x t values ds fs hs s (m ∷ ms) is may shun left r anew =
+        let item : Item = record { number = height s.masters; owned = record_object t } in
+        let inner : World = record w { upper = record m { items = item ∷ m.items } ∷ ms } in
+        let words = words_of tds t in
+        let v = created s.heap words in
+        let cell = record_cell named tds t (height s.masters) values in
+        let after = create s.heap words cell in
+        let two = and_parts (w.apart.starts t) (w.apart.ends t) may in
+        let sight = new_in_sight w s.heap r.same words in
+        let placed : IsRun w (with_places (slice_set (places s) x v) s.activations) s.masters after =
+        put_runs w x v (record s { heap = after }) (new_elsewhere w s.heap r.same words) (created_run w words cell s.activations s.masters s.heap r) in
+        let runs = owned_run w (with_places (slice_set (places s) x v) s.activations) s.masters after placed m ms is item in
+        let behind : Left inner (frame.Elaborates ds fs hs ∷ s.control) =
+        (shun, anew, (((may, height_run w s.activations s.masters s.heap r), left.0), left.1)) in
+        let all : IsLeftOf w.apart.definitions PartsFirst t (all_tasks tds t PartsFirst) =
+        subst (λ (ts : List TypeDefinition). IsLeftOf w.apart.definitions PartsFirst t (all_tasks ts t PartsFirst)) own whole in
+        let starts = starting_left inner v Creation [] (all_tasks tds t PartsFirst) (frame.Elaborates ds fs hs ∷ s.control) sight
+        (record { access = t; may = two.0; created = refl; left = all; begun = tt }) behind refl in
+        stays inner (made named tds x t Creation values (at (frame.Elaborates ds fs hs ∷ s.control) s)) runs starts.0 starts.1
+
+    -- The bodies go on as a declaration is elaborated, or the statements behind the last one come.
+    pub declarations_go :
+        (ds : List DeclarationForm) (fs : StmtsForm) (hs : HandlersForm) (s : State) → elaboration_shuns ds fs hs ≡ true → Runs w s
+        → InOwn w.apart w.lower w.upper (λ (ns : List Master). LeftIn w ns s.control) → begins_anew s.control ≡ true
+        → AllGoOn (On w) (declarations_next named tds ds fs hs s)
+    declarations_go [] fs hs s shun r left anew =
+        let three = and_parts (true && statements_shun w.p.types w.shuns w.apart (variables_in w) fs)
+        (handlers_shun w.p.types w.shuns w.apart (variables_in w) hs) shun in
+        let closes = own_in w.apart w.lower frame.Closes w.upper (λ (ns : List Master). LeftIn w ns s.control) refl left in
+        stays w (at (frame.Does fs ∷ frame.Handles hs ∷ frame.Closes ∷ s.control) s) r
+        ((and_parts true (statements_shun w.p.types w.shuns w.apart (variables_in w) fs) three.0).1, refl, (three.1, refl, (tt, anew, closes))) refl
+    declarations_go (creates_pool pool ∷ ds) fs hs s shun r left anew = absurd (cc)
+    declarations_go (collects access ∷ ds) fs hs s shun r left anew = absurd (cc)
+    declarations_go (declares x right ∷ ds) fs hs s shun r left anew =
+        let three = elaboration_parts (declares x right) ds fs hs shun in
+        let more : InMasters w.apart w.lower (frame.Elaborates ds fs hs) w.upper (λ (ns : List Master). LeftIn w ns s.control) =
+        own_in w.apart w.lower (frame.Elaborates ds fs hs) w.upper (λ (ns : List Master). LeftIn w ns s.control) refl left in
+        let declared =
+        declares_in w.apart w.lower x w.upper (λ (ns : List Master). LeftIn w ns s.control)
+        (λ (ns : List Master). LeftIn w ns (frame.Elaborates ds fs hs ∷ s.control)) left (three.1, anew, more) in
+        stays w (at (frame.Evaluates right ∷ frame.Declares x ∷ frame.Elaborates ds fs hs ∷ s.control) s) r (three.0, refl, (tt, refl, declared)) refl
+    declarations_go (declares_record x t None ∷ ds) fs hs s shun r left anew =
+        let three = elaboration_parts (declares_record x t None) ds fs hs shun in
+        made_goes x t (initial_values named (reached_of tds t)) ds fs hs s w.upper refl three.0 three.1 left r anew
+    declarations_go (declares_record x t (Some items) ∷ ds) fs hs s shun r left anew = absurd (cc)

@@ -1,6 +1,6 @@
 -- What a step looks at of bodies that shun some access types: at no ghost.
 
-use Rattle.std.proofs.Common.{◌≡◌, ℕ, true, List, [], ◌∷◌, Option, Some, None, refl, sym, ap, ◌∙◌, inl, subst}
+use Rattle.std.proofs.Common.{◌≡◌, ◌<◌, ◌≤◌, ℕ, true, List, [], ◌∷◌, ◌++◌, Option, Some, None, refl, sym, ap, ◌∙◌, inr, subst, arith}
 use Rattle.std.specs.List.{list_all, slice_get}
 use Rattle.std.proofs.lemmas.Bool.{and_parts}
 use Rattle.ada_program.specs.declared.program.TypeNo.{TypeNo}
@@ -16,16 +16,18 @@ use Rattle.ada_meaning.specs.declared.state.Value.TheVariants.{Names}
 use Rattle.ada_meaning.specs.Frame.{Frame}
 use Rattle.ada_meaning.specs.Frame as frame
 use Rattle.ada_meaning.specs.Heap.{Cell, Found, on_null, on_gone, on_other, finds}
+use Rattle.ada_meaning.specs.State.{Item, Master, height}
 use Rattle.ada_meaning.specs.Step.{operands, held, newest, places}
 use Rattle.ada_meaning.specs.Named.{Object, State, named, object_at, look}
 use Rattle.ada_typed.specs.Holding.{HasKind, cells_of}
-use Rattle.ada_untouched.specs.Untouched.{IsOpen, FreedIsOpen, MayBeSought, MayBeFreed, RecordIsOpen, ExpressionIsOpen, ItemsAreOpen, RightIsOpen, StatementsAreOpen, FrameIsOpen, JumpIsOpen, FirstIsOpen}
+use Rattle.ada_untouched.specs.Untouched.{HousesNoGhost, InnermostHousesNoGhost, NewestHousesNoGhost, IsOpen, FreedIsOpen, MayBeSought, MayBeFreed, RecordIsOpen, ExpressionIsOpen, ItemsAreOpen, RightIsOpen, StatementsAreOpen, FrameIsOpen, JumpIsOpen, FirstIsOpen}
 use Rattle.ada_reaching.specs.Forms.{may_follow, selectors_shun, path_shuns, record_path_shuns, expression_shuns, item_shuns, right_shuns, statement_shuns, statements_shun}
-use Rattle.ada_reaching.specs.Law.{TakesNone, FirstTakesNone, none_hidden}
+use Rattle.ada_reaching.specs.Reaching.{AreOwnedApart, InMasters}
+use Rattle.ada_reaching.specs.Law.{none_hidden}
 use Rattle.ada_reaching.proofs.Elsewhere.{elsewhere_at}
 use Rattle.ada_reaching.proofs.Frames.{newest_seeks}
 use Rattle.ada_reaching.proofs.Frees.{same_kind, component_sight, variable_sight}
-use Rattle.ada_reaching.proofs.Going.{World, variables_in, Runs, Left, OperandsSeek, ValueSeeks}
+use Rattle.ada_reaching.proofs.Going.{World, variables_in, Runs, LeftIn, Left, OperandsSeek, ValueSeeks, low_there}
 use Rattle.ada_reaching.proofs.Jumps.{FirstIsRooted}
 use Rattle.ada_reaching.proofs.Paths.{found_there, nothing_hidden, Sound, in_sight, path_open, holder_open}
 use Rattle.ada_reaching.proofs.Rooted.{PathIsRooted, ExpressionIsRooted, ItemsAreRooted, RightIsRooted, StatementsAreRooted, FrameIsRooted}
@@ -146,37 +148,54 @@ module _ (w : World) (s : State) (sound : Sound w s) (r : Runs w s) where
   component_open v c on_other is each = tt
   component_open v c (finds cell) is each = sought_open v c cell (slice_get cell.values c) is refl each
 
+  -- The newest item of the bodies' own is the home of no ghost, since each ghost has its home in one of those before.
+  newest_open : (items : List Item) → AreOwnedApart w.apart w.lower items → NewestHousesNoGhost w.ghosts s.heap items
+  newest_open [] own = tt
+  newest_open (item ∷ items) own = inr (houses_none item.number own.0.1)
+    where
+      houses_none : (item : ℕ) → height w.lower ≤ item → HousesNoGhost w.ghosts s.heap item
+      houses_none item above = λ o x is at home. let low = low_there w s.heap r.same o x is at in omega (arith, above, low, home)
+
+  -- So it is with the innermost master that is left.
+  innermost_open :
+      (mode : Mode) (k : List (Frame Value)) (upper : List Master) → w.upper ≡ upper
+      → InMasters w.apart w.lower (frame.Leaves mode) upper (λ (ns : List Master). LeftIn w ns k) → InnermostHousesNoGhost w.ghosts s.heap s.masters
+  innermost_open mode k [] is h = absurd h
+  innermost_open mode k (m ∷ ms) is h =
+      subst (λ (masters : List Master). InnermostHousesNoGhost w.ghosts s.heap masters) (sym (r.owns ∙ ap (λ (upper : List Master). upper ++ w.lower) is))
+      (newest_open m.items h.0)
+
   -- A frame looks at no ghost.
   frame_open :
       (f : Frame Value) (k : List (Frame Value)) → Left w (f ∷ k) → FrameIsRooted w.p.types (variables_in w) f
-      → ValueSeeks w s.heap (newest named s) (f ∷ k) → TakesNone f s.masters → FrameIsOpen none_hidden w.ghosts s f
-  frame_open (frame.Does fs) k h root seeks none = statements_open fs (h.0) root
-  frame_open (frame.Leaves mode) k h root seeks none = inl none
-  frame_open (frame.Evaluates right) k h root seeks none = right_open right (h.0) root
-  frame_open (frame.Computes e) k h root seeks none = expression_open e (h.0) root
-  frame_open (frame.Follows cs) k h root seeks none = followed_open cs (newest named s) k seeks
-  frame_open (frame.Refers q) k h root seeks none = record_open q (h.0) root
-  frame_open (frame.RefersIn place t) k h root seeks none = in_sight w s.heap r.same (newest named s) seeks
-  frame_open (frame.Opens path) k h root seeks none = holder_open w s path.root path.selectors root.0 sound r root.1 (h.0)
-  frame_open (frame.OpensIn c) k h root seeks none = (in_sight w s.heap r.same (newest named s) seeks, nothing_hidden (newest named s) c)
-  frame_open (frame.Fills items) k h root seeks none = items_open items (h.0) root
-  frame_open (frame.Copies c t) k h root seeks none =
+      → ValueSeeks w s.heap (newest named s) (f ∷ k) → FrameIsOpen none_hidden w.ghosts s f
+  frame_open (frame.Does fs) k h root seeks = statements_open fs (h.0) root
+  frame_open (frame.Leaves mode) k h root seeks = innermost_open mode k w.upper refl h.2
+  frame_open (frame.Evaluates right) k h root seeks = right_open right (h.0) root
+  frame_open (frame.Computes e) k h root seeks = expression_open e (h.0) root
+  frame_open (frame.Follows cs) k h root seeks = followed_open cs (newest named s) k seeks
+  frame_open (frame.Refers q) k h root seeks = record_open q (h.0) root
+  frame_open (frame.RefersIn place t) k h root seeks = in_sight w s.heap r.same (newest named s) seeks
+  frame_open (frame.Opens path) k h root seeks = holder_open w s path.root path.selectors root.0 sound r root.1 (h.0)
+  frame_open (frame.OpensIn c) k h root seeks = (in_sight w s.heap r.same (newest named s) seeks, nothing_hidden (newest named s) c)
+  frame_open (frame.Fills items) k h root seeks = items_open items (h.0) root
+  frame_open (frame.Copies c t) k h root seeks =
       (in_sight w s.heap r.same (newest named s) seeks, λ component. nothing_hidden (newest named s) component)
-  frame_open (frame.Targets c right) k h root seeks none = in_sight w s.heap r.same (newest named s) seeks
-  frame_open (frame.StoresIn v c) k h root seeks none = h.0
-  frame_open (frame.TargetsRecord c t items) k h root seeks none = in_sight w s.heap r.same (newest named s) seeks
-  frame_open (frame.StoresRecord v c count) k h root seeks none = h.0
-  frame_open (frame.Receives c) k h root seeks none = in_sight w s.heap r.same (newest named s) seeks
-  frame_open (frame.FreesIn access c) k h root seeks none = (
+  frame_open (frame.Targets c right) k h root seeks = in_sight w s.heap r.same (newest named s) seeks
+  frame_open (frame.StoresIn v c) k h root seeks = h.0
+  frame_open (frame.TargetsRecord c t items) k h root seeks = in_sight w s.heap r.same (newest named s) seeks
+  frame_open (frame.StoresRecord v c count) k h root seeks = h.0
+  frame_open (frame.Receives c) k h root seeks = in_sight w s.heap r.same (newest named s) seeks
+  frame_open (frame.FreesIn access c) k h root seeks = (
     (in_sight w s.heap r.same (newest named s) (λ o x e at. (seeks o x e at).0), nothing_hidden (newest named s) c),
     component_open (newest named s) c (look s.heap (newest named s)) refl (λ o x e at. (seeks o x e at).1),
   )
-  frame_open (frame.Treats v treatment tasks) k h root seeks none = h.0.0
-  frame_open (frame.Awaits v by done of part tasks) k h root seeks none = h.0.0
-  frame_open (frame.Ends v) k h root seeks none = h.0
-  frame_open (frame.GivesBack v cause pool) k h root seeks none = h.0
-  frame_open (frame.ClearsIn v c) k h root seeks none = h.0
-  frame_open f k h root seeks none = tt
+  frame_open (frame.Treats v treatment tasks) k h root seeks = h.0.0
+  frame_open (frame.Awaits v by done of part tasks) k h root seeks = h.0.0
+  frame_open (frame.Ends v) k h root seeks = h.0
+  frame_open (frame.GivesBack v cause pool) k h root seeks = h.0
+  frame_open (frame.ClearsIn v c) k h root seeks = h.0
+  frame_open f k h root seeks = tt
 
   -- A jump looks at no ghost.
   jump_open : (f : Frame Value) (k : List (Frame Value)) → Left w (f ∷ k) → JumpIsOpen none_hidden w.ghosts s f
@@ -186,12 +205,12 @@ module _ (w : World) (s : State) (sound : Sound w s) (r : Runs w s) where
   -- The first of what is left to do looks at no ghost, in any mode.
   pub first_open :
       (m : Mode) (k : List (Frame Value)) → Left w k → FirstIsRooted w.p.types (variables_in w) m k
-      → OperandsSeek w s.heap m k (operands s) → FirstTakesNone k s.masters → FirstIsOpen none_hidden w.ghosts s m k
-  first_open Running [] h root seeks none = tt
-  first_open Running (f ∷ k) h root seeks none = frame_open f k h root (newest_seeks w s.heap (f ∷ k) (operands s) seeks) none
-  first_open (Raising e) [] h root seeks none = tt
-  first_open (Raising e) (f ∷ k) h root seeks none = jump_open f k h
-  first_open Exiting [] h root seeks none = tt
-  first_open Exiting (f ∷ k) h root seeks none = jump_open f k h
-  first_open Returning [] h root seeks none = tt
-  first_open Returning (f ∷ k) h root seeks none = jump_open f k h
+      → OperandsSeek w s.heap m k (operands s) → FirstIsOpen none_hidden w.ghosts s m k
+  first_open Running [] h root seeks = tt
+  first_open Running (f ∷ k) h root seeks = frame_open f k h root (newest_seeks w s.heap (f ∷ k) (operands s) seeks)
+  first_open (Raising e) [] h root seeks = tt
+  first_open (Raising e) (f ∷ k) h root seeks = jump_open f k h
+  first_open Exiting [] h root seeks = tt
+  first_open Exiting (f ∷ k) h root seeks = jump_open f k h
+  first_open Returning [] h root seeks = tt
+  first_open Returning (f ∷ k) h root seeks = jump_open f k h

@@ -1,5 +1,5 @@
--- What is finalized of what a body frees that shuns some access types (7.6.1, 13.11.2), and initialized of what it allocates (7.6, 4.8): the operations of
--- such objects have bodies that shun them, too.
+-- What is finalized of what a body frees or has declared that shuns some access types (7.6.1, 13.11.2), and initialized of what it allocates or declares (7.6,
+-- 4.8, 3.3.1): the operations of such objects have bodies that shun them, too.
 
 use Rattle.std.proofs.Common.{◌≡◌, ℕ, Bool, true, false, if◌then◌else◌, List, [], ◌∷◌, length, map, Option, Some, None, refl, subst, inl, inr}
 use Rattle.std.specs.Prelude.{◌==◌}
@@ -18,7 +18,7 @@ use Rattle.ada_meaning.specs.declared.event.Cause.TheVariants.{Undoing}
 use Rattle.ada_meaning.specs.declared.event.Halt.TheVariants.{Erroneous, Stuck}
 use Rattle.ada_meaning.specs.declared.event.Why.TheVariants.{FinalizesTwice}
 use Rattle.ada_meaning.specs.declared.state.Id.{Id}
-use Rattle.ada_meaning.specs.declared.state.Mode.TheVariants.{Raising}
+use Rattle.ada_meaning.specs.declared.state.Mode.TheVariants.{Running, Raising}
 use Rattle.ada_meaning.specs.declared.state.Place.{Place}
 use Rattle.ada_meaning.specs.declared.state.Value.{Value}
 use Rattle.ada_meaning.specs.declared.state.Value.TheVariants.{Null, Names, Scalar, Part}
@@ -32,10 +32,10 @@ use Rattle.ada_meaning.specs.Named.{Object, State, named, look, refer, treated, 
 use Rattle.ada_untouched.specs.Untouched.{IsInSight}
 use Rattle.ada_reaching.specs.Apart.{AreBegunIn, AreUndoneIn, IsBegunIn, IsLeftOf, picked, called}
 use Rattle.ada_reaching.specs.Forms.{body_shuns}
-use Rattle.ada_reaching.specs.Reaching.{AwaitsApart, EndsApart, IsElsewhere, StartsApart, TreatsApart, begins_anew}
+use Rattle.ada_reaching.specs.Reaching.{AwaitsApart, EndsApart, IsElsewhere, IsInFront, StartsApart, TreatsApart, begins_anew, is_leaving, seeks_nothing}
 use Rattle.ada_reaching.specs.Law.{AreApart, AllGoOn}
 use Rattle.ada_reaching.proofs.Begins.{beginning_goes}
-use Rattle.ada_reaching.proofs.Going.{World, Runs, Left, On, Goes, changed_run, operands_run, stays}
+use Rattle.ada_reaching.proofs.Going.{World, Runs, Left, On, Goes, GoesRunning, anew_quiet, anew_stands, anew_from, changed_run, operands_run, stays, runs_on}
 
 -- What refers to a part of an object that is found refers to no ghost, where the object is none.
 part_elsewhere :
@@ -58,11 +58,62 @@ module _ (w : World) where
       beginning_goes w procedure b (reference ∷ []) [] [] k s.activations s is (shun b refl) (other, tt) tt r h anew
 
   -- An object is initialized or finalized so in front of what shuns the types.
-  pub treating_left :
+  treating_left :
       (v : Value) (treatment : Treatment) (tasks : List Task) (k : List (Frame Value)) → IsInSight w.ghosts v → TreatsApart w.apart treatment tasks → Left w k
-      → begins_anew k ≡ true → Left w (treating v treatment tasks k) × (begins_anew (treating v treatment tasks k) ≡ true)
-  treating_left v treatment [] k sight left h anew = (h, anew)
-  treating_left v treatment (task ∷ tasks) k sight left h anew = (((sight, left), anew, h), refl)
+      → IsInFront (frame.Treats v treatment tasks) k → Left w (treating v treatment tasks k)
+  treating_left v treatment [] k sight left h front = h
+  treating_left v treatment (task ∷ tasks) k sight left h front = ((sight, left), front, h)
+
+  -- Nothing is sought there.
+  treating_quiet :
+      (v : Value) (treatment : Treatment) (tasks : List Task) (k : List (Frame Value)) → seeks_nothing k ≡ true
+      → seeks_nothing (treating v treatment tasks k) ≡ true
+  treating_quiet v treatment [] k quiet = quiet
+  treating_quiet v treatment (task ∷ tasks) k quiet = refl
+
+  -- A master is left there where one is left behind.
+  treating_stands :
+      (v : Value) (treatment : Treatment) (tasks : List Task) (k : List (Frame Value)) → is_leaving k ≡ false
+      → is_leaving (treating v treatment tasks k) ≡ false
+  treating_stands v treatment [] k stands = stands
+  treating_stands v treatment (task ∷ tasks) k stands = stands
+
+  -- Nothing is sought behind a treatment.
+  front_quiet :
+      (v : Value) (treatment : Treatment) (tasks : List Task) (k : List (Frame Value)) → IsInFront (frame.Treats v treatment tasks) k → seeks_nothing k ≡ true
+  front_quiet v (begins by done) tasks k front = anew_quiet k front
+  front_quiet v (ends cause) tasks k front = front
+
+  -- What a treatment is in front of may be behind it whatever is left of it.
+  front_of :
+      (v : Value) (treatment : Treatment) (tasks more : List Task) (k : List (Frame Value)) → IsInFront (frame.Treats v treatment tasks) k
+      → IsInFront (frame.Treats v treatment more) k
+  front_of v (begins by done) tasks more k front = front
+  front_of v (ends cause) tasks more k front = front
+
+  -- An object is initialized so, where what is left behind begins anew.
+  pub starting_left :
+      (v : Value) (by : Birth) (done : List parts.Part) (tasks : List Task) (k : List (Frame Value)) → IsInSight w.ghosts v → StartsApart w.apart by done tasks
+      → Left w k → begins_anew k ≡ true → Left w (treating v (begins by done) tasks k) × (begins_anew (treating v (begins by done) tasks k) ≡ true)
+  starting_left v by done tasks k sight left h anew = (
+    treating_left v (begins by done) tasks k sight left h anew,
+    anew_from (treating v (begins by done) tasks k) (treating_quiet v (begins by done) tasks k (anew_quiet k anew))
+        (treating_stands v (begins by done) tasks k (anew_stands k anew)),
+  )
+
+  -- One is finalized so, where nothing is sought behind.
+  pub ending_left :
+      (v : Value) (cause : Cause) (tasks : List Task) (k : List (Frame Value)) → IsInSight w.ghosts v → EndsApart w.apart tasks → Left w k
+      → seeks_nothing k ≡ true → Left w (treating v (ends cause) tasks k) × (seeks_nothing (treating v (ends cause) tasks k) ≡ true)
+  ending_left v cause tasks k sight left h quiet =
+      (treating_left v (ends cause) tasks k sight left h quiet, treating_quiet v (ends cause) tasks k quiet)
+
+  -- What is left begins anew, where it does so behind.
+  pub ending_anew :
+      (v : Value) (cause : Cause) (tasks : List Task) (k : List (Frame Value)) → seeks_nothing k ≡ true → is_leaving k ≡ false
+      → begins_anew (treating v (ends cause) tasks k) ≡ true
+  ending_anew v cause tasks k quiet stands =
+      anew_from (treating v (ends cause) tasks k) (treating_quiet v (ends cause) tasks k quiet) (treating_stands v (ends cause) tasks k stands)
 
   -- The bodies go on as a part comes to have a value (7.6).
   born_goes :
@@ -78,9 +129,9 @@ module _ (w : World) where
         left = left.starts.left;
         begun = (left.begins, left.starts.begun);
       } in
-      let behind = treating_left v (begins by more) tasks s.control sight starts h anew in
+      let behind = starting_left v by more tasks s.control sight starts h anew in
       stays w (treated_on named v (begins by more) tasks (record s { born = counted s.born; heap = bear s.heap v part (counted s.born) }))
-      (changed_run w (treated (born_part (counted s.born)) part) v s.activations s.heap sight r) behind.0 behind.1
+      (changed_run w (treated (born_part (counted s.born)) part) v s.activations s.masters s.heap sight r) behind.0 behind.1
 
   -- So they do once the operation has ended that begins it.
   pub awaited_goes :
@@ -108,10 +159,10 @@ module _ (w : World) where
   undone_goes e v access done on_other s sight may begun r h anew = tt
   undone_goes e v access done (finds cell) s sight may begun r h anew =
       let behind = frame.Ends v ∷ frame.GivesBack v (Undoing s.next) cell.home.pool ∷ frame.Resumes (Raising e) ∷ s.control in
-      let left = treating_left v (ends (Undoing s.next)) (map (λ (p : parts.Part). performs p.of p.number) done) behind sight
+      let left = ending_left v (Undoing s.next) (map (λ (p : parts.Part). performs p.of p.number) done) behind sight
       (access, inr (may, undone_left access done begun)) (sight, refl, (sight, refl, (tt, anew, h))) refl in
-      stays w (undone named e v done cell s)
-      (changed_run w parted v (with_operands [] s.activations) s.heap sight (operands_run w [] s.activations s.heap tt r)) left.0 left.1
+      runs_on w (undone named e v done cell s) refl
+      (changed_run w parted v (with_operands [] s.activations) s.masters s.heap sight (operands_run w [] s.activations s.masters s.heap tt r)) left.0 left.1
 
   module _ (tds : List TypeDefinition) (own : w.apart.definitions ≡ tds) where
     -- Once a component has been picked, what is left of a finalization is so.
@@ -147,14 +198,17 @@ module _ (w : World) where
     -- The bodies go on as one of so many components is picked.
     picked_goes :
         (none : Bool) (v : Value) (treatment : Treatment) (components : List Component) (tasks : List Task) (count : ℕ) (s : State) → IsInSight w.ghosts v
-        → TreatsApart w.apart treatment (treats components ∷ tasks)
-        → Goes w s (if none then halts Stuck
+        → TreatsApart w.apart treatment (treats components ∷ tasks) → s.mode ≡ Running → Runs w s → Left w s.control
+        → IsInFront (frame.Treats v treatment (treats components ∷ tasks)) s.control
+        → AllGoOn (On w) (if none then halts Stuck
         else picks count (λ i. treated_on named v treatment (picked_task (shapes_of tds) (direction_of treatment) (treats components ∷ tasks) i) s))
-    picked_goes true v treatment components tasks count s sight left r h anew = tt
-    picked_goes false v treatment components tasks count s sight left r h anew = λ i below.
+    picked_goes true v treatment components tasks count s sight left running r h front = tt
+    picked_goes false v treatment components tasks count s sight left running r h front = λ i below.
         let more = picked_task (shapes_of tds) (direction_of treatment) (treats components ∷ tasks) i in
-        let behind = treating_left v treatment more s.control sight (treats_picked treatment components tasks i left) h anew in
-        stays w (treated_on named v treatment more s) r behind.0 behind.1
+        runs_on w (treated_on named v treatment more s) running r
+        (treating_left v treatment more s.control sight (treats_picked treatment components tasks i left) h
+        (front_of v treatment (treats components ∷ tasks) more s.control front))
+        (treating_quiet v treatment more s.control (front_quiet v treatment (treats components ∷ tasks) s.control front))
 
   -- Once a Finalize has been called, what is left is so.
   ends_called : (of part : ℕ) (tasks : List Task) → EndsApart w.apart (performs of part ∷ tasks) → EndsApart w.apart tasks
@@ -208,56 +262,58 @@ module _ (w : World) where
     ended_goes :
         (v : Value) (part : ℕ) (state : PartState) (k : List (Frame Value)) (operation : Option ℕ) (e : Event Value) (s : State)
         → ((number : ℕ) → operation ≡ Some number → w.apart.calls number ≡ true) → IsElsewhere w.ghosts w.unnamed (part_reference named v part state)
-        → Runs w s → Left w k → begins_anew k ≡ true → AllGoOn (On w) (ended_next named w.p.bodies v part state k operation e s)
-    ended_goes v part state k None e s each other r h anew = stays w (at k s) r h anew
-    ended_goes v part state k (Some procedure) e s each other r h anew =
+        → s.mode ≡ Running → Runs w s → Left w k → seeks_nothing k ≡ true → AllGoOn (On w) (ended_next named w.p.bodies v part state k operation e s)
+    ended_goes v part state k None e s each other running r h quiet = runs_on w (at k s) running r h quiet
+    ended_goes v part state k (Some procedure) e s each other running r h quiet =
         operation_goes procedure (slice_get w.p.bodies procedure) (part_reference named v part state) (frame.Confines ∷ k) e s refl
-        (λ b is. are_apart.bodies procedure b (each procedure refl) is) other r (tt, anew, h) refl
+        (λ b is. are_apart.bodies procedure b (each procedure refl) is) other r (tt, quiet, h) refl
 
     -- The bodies go on as the value of a part is finalized, if it has one.
     valued_goes :
         (alive : Bool) (v : Value) (part : ℕ) (state : PartState) (k : List (Frame Value)) (operation : Option ℕ) (e : Event Value) (s : State)
         → ((number : ℕ) → operation ≡ Some number → w.apart.calls number ≡ true) → IsElsewhere w.ghosts w.unnamed (part_reference named v part state)
-        → IsInSight w.ghosts v → Runs w s → Left w k → begins_anew k ≡ true
+        → IsInSight w.ghosts v → s.mode ≡ Running → Runs w s → Left w k → seeks_nothing k ≡ true
         → AllGoOn (On w) (if alive then ended_next named w.p.bodies v part state k operation e (record s { heap = finalize s.heap v part })
         else halts (Erroneous FinalizesTwice))
-    valued_goes false v part state k operation e s each other sight r h anew = tt
-    valued_goes true v part state k operation e s each other sight r h anew =
-        ended_goes v part state k operation e (record s { heap = finalize s.heap v part }) each other
-        (changed_run w (treated finalized_part part) v s.activations s.heap sight r) h anew
+    valued_goes false v part state k operation e s each other sight running r h quiet = tt
+    valued_goes true v part state k operation e s each other sight running r h quiet =
+        ended_goes v part state k operation e (record s { heap = finalize s.heap v part }) each other running
+        (changed_run w (treated finalized_part part) v s.activations s.masters s.heap sight r) h quiet
 
     -- So they do, if there is that part of the object.
     finalized_goes :
         (v : Value) (cause : Cause) (of part : ℕ) (tasks : List Task) (operation : Option ℕ) (found : Option PartState) (cell : Cell Value) (s : State)
         → look s.heap v ≡ finds cell → ((number : ℕ) → operation ≡ Some number → w.apart.calls number ≡ true) → IsInSight w.ghosts v
-        → EndsApart w.apart tasks → Goes w s (finalized_next named w.p.bodies v cause of part tasks operation found s)
-    finalized_goes v cause of part tasks operation None cell s there each sight left r h anew = tt
-    finalized_goes v cause of part tasks operation (Some state) cell s there each sight left r h anew =
-        let behind = treating_left v (ends cause) tasks s.control sight left h anew in
+        → EndsApart w.apart tasks → GoesRunning w s (finalized_next named w.p.bodies v cause of part tasks operation found s)
+    finalized_goes v cause of part tasks operation None cell s there each sight left running r h quiet = tt
+    finalized_goes v cause of part tasks operation (Some state) cell s there each sight left running r h quiet =
+        let behind = ending_left v cause tasks s.control sight left h quiet in
         valued_goes state.alive v part state (treating v (ends cause) tasks s.control) operation (Finalized v part state.turn of state.number cause) s each
-        (part_elsewhere w.ghosts w.unnamed s.heap v (record { component = state.first; part = part }) cell there sight) sight r behind.0 behind.1
+        (part_elsewhere w.ghosts w.unnamed s.heap v (record { component = state.first; part = part }) cell there sight) sight running r behind.0 behind.1
 
     -- So they do as an operation is called, by what is found of the object.
     performed_goes :
         (v : Value) (treatment : Treatment) (of part : ℕ) (tasks : List Task) (found : Found (Cell Value)) (s : State) → look s.heap v ≡ found
-        → IsInSight w.ghosts v → TreatsApart w.apart treatment (performs of part ∷ tasks)
-        → Goes w s (performed_next named tds w.p.bodies v treatment of part tasks found s)
-    performed_goes v treatment of part tasks on_null s is sight left r h anew = tt
-    performed_goes v treatment of part tasks on_gone s is sight left r h anew = tt
-    performed_goes v treatment of part tasks on_other s is sight left r h anew = tt
-    performed_goes v (begins by done) of part tasks (finds cell) s is sight left r h anew =
+        → IsInSight w.ghosts v → TreatsApart w.apart treatment (performs of part ∷ tasks) → s.mode ≡ Running → Runs w s → Left w s.control
+        → IsInFront (frame.Treats v treatment (performs of part ∷ tasks)) s.control
+        → AllGoOn (On w) (performed_next named tds w.p.bodies v treatment of part tasks found s)
+    performed_goes v treatment of part tasks on_null s is sight left running r h front = tt
+    performed_goes v treatment of part tasks on_gone s is sight left running r h front = tt
+    performed_goes v treatment of part tasks on_other s is sight left running r h front = tt
+    performed_goes v (begins by done) of part tasks (finds cell) s is sight left running r h front =
         begun_goes v by done of part tasks (beginning by (operations_of tds of)) (slice_get cell.parts part) cell s is
-        (λ number called_so. initialize_apart by done of part number tasks left called_so) sight (starts_called by done of part tasks left) r h anew
-    performed_goes v (ends cause) of part tasks (finds cell) s is sight left r h anew =
+        (λ number called_so. initialize_apart by done of part number tasks left called_so) sight (starts_called by done of part tasks left) r h front
+    performed_goes v (ends cause) of part tasks (finds cell) s is sight left running r h front =
         finalized_goes v cause of part tasks (procedure_number (operations_of tds of).finalize) (slice_get cell.parts part) cell s is
-        (λ number called_so. finalize_apart of part number tasks left called_so) sight (ends_called of part tasks left) r h anew
+        (λ number called_so. finalize_apart of part number tasks left called_so) sight (ends_called of part tasks left) running r h front
 
-    -- The bodies go on as an object is treated: they initialize one that they may allocate, or finalize one that they may free.
+    -- The bodies go on as an object is treated: they initialize one that they may allocate or declare, or finalize one that they may free or have declared.
     pub treats_goes :
         (v : Value) (treatment : Treatment) (tasks : List Task) (s : State) → IsInSight w.ghosts v → TreatsApart w.apart treatment tasks
-        → Goes w s (treats_next named tds w.p.bodies v treatment tasks (task_next tasks) s)
-    treats_goes v treatment [] s sight left r h anew = stays w s r h anew
-    treats_goes v treatment (treats components ∷ tasks) s sight left r h anew =
-        picked_goes tds are_apart.own (length components == 0) v treatment components tasks (length components) s sight left r h anew
-    treats_goes v treatment (performs of part ∷ tasks) s sight left r h anew =
-        performed_goes v treatment of part tasks (look s.heap v) s refl sight left r h anew
+        → s.mode ≡ Running → Runs w s → Left w s.control → IsInFront (frame.Treats v treatment tasks) s.control
+        → AllGoOn (On w) (treats_next named tds w.p.bodies v treatment tasks (task_next tasks) s)
+    treats_goes v treatment [] s sight left running r h front = runs_on w s running r h (front_quiet v treatment [] s.control front)
+    treats_goes v treatment (treats components ∷ tasks) s sight left running r h front =
+        picked_goes tds are_apart.own (length components == 0) v treatment components tasks (length components) s sight left running r h front
+    treats_goes v treatment (performs of part ∷ tasks) s sight left running r h front =
+        performed_goes v treatment of part tasks (look s.heap v) s refl sight left running r h front
