@@ -34,6 +34,7 @@ use Rattle.ada_typed.proofs.Kept.{Behind, Each, behind_call}
 use Rattle.ada_judged.specs.Obeying.{BodyIsOrderly}
 use Rattle.ada_quiet.specs.Calm.{calmly_copied_types, has_calm_objects}
 use Rattle.ada_quiet.specs.InUse.{is_copied_in_order, stand_in_a_row, adjusts_itself, may_track}
+use Rattle.ada_sound.proofs.Allowance.{simple_allowance}
 use Rattle.ada_sound.proofs.Adjusting.{Adjusting, waiting}
 use Rattle.ada_sound.proofs.AdjustingCore.{judged_keeps}
 use Rattle.ada_sound.proofs.AdjustingEnds.{EndsCopy, GetBack, adjusting_ends, gets_back, judged_of}

@@ -166,6 +166,6 @@ thrifty_parts allowance b is =
     let two = and_parts _ _ three.0 in
     (two.0, two.1, three.1)
 
--- What a body goes by that calls nothing, and neither allocates nor frees an object with controlled parts.
+-- What a body goes by that calls nothing, declares variables alone, and neither allocates nor frees an object with controlled parts.
 abbrev pub simple_allowance : List TypeForm → Allowance
 simple_allowance types = record { types = types; treats_parts = false; objects = false; procedures = [] }
