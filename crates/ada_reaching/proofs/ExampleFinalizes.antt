@@ -206,8 +206,20 @@ finalization_is_met = (
             control = (
               (refl, (3, inl (refl, whole))),
               refl,
-              (refl, refl, (refl, refl, (tt, refl, done_shun (program_form drops) beside ghosts none_unnamed _ of_main _ of_first of_fill _ _ tt
-                  ((tt, omega arith), ((tt, omega arith), tt)) (refl, (refl, tt))))),
+              (
+                refl,
+                refl,
+                (
+                  refl,
+                  refl,
+                  (
+                    tt,
+                    refl,
+                    done_shun (program_form drops) beside ghosts none_unnamed _ of_main _ of_first of_fill _ _ tt
+                        ((tt, omega arith), ((tt, omega arith), tt)) (refl, (refl, tt)),
+                  ),
+                ),
+              ),
             );
             jumps = tt;
             seeks = tt;

@@ -219,8 +219,12 @@ initialization_is_met = (
             control = (
               (refl, record { access = 3; may = refl; created = refl; left = whole; begun = tt }),
               refl,
-              (tt, refl, done_shun (program_form makes) beside first_ghost none_unnamed _ of_main _ of_first of_fill _ _ tt
-                  ((tt, omega arith), ((tt, omega arith), tt)) (tt, (refl, tt))),
+              (
+                tt,
+                refl,
+                done_shun (program_form makes) beside first_ghost none_unnamed _ of_main _ of_first of_fill _ _ tt
+                    ((tt, omega arith), ((tt, omega arith), tt)) (tt, (refl, tt)),
+              ),
             );
             jumps = tt;
             seeks = λ x at. tt;

@@ -157,52 +157,52 @@ OthersStay o before after = (q : Id) → q ≢ o → object_at after q ≡ objec
 -- What is around stays around while what is watched is so still, and what is left to do goes on.
 module _ (program : Program) (s after : State) (active : after.activations ≡ s.activations)
     (still : (watch : Option Watch) (behind : Control) (lower : List Master) → Watched program watch behind lower s → Watched program watch behind lower after)
-    where
-  -- What is watched in each of these activations is so still.
-  all_on :
-      (frugal : Allowance) (back : Control) (lower : List Master) (running : Option ℕ) (depth : ℕ) (outermost : Option ℕ) (waiting inner : List Suspension)
-      (w : AreInner program s frugal back lower running depth outermost waiting inner)
-      → AllWatched program s frugal back lower after running depth outermost waiting inner w
-  all_on frugal back lower running depth outermost waiting [] w = tt
-  all_on frugal back lower running depth outermost waiting (g ∷ inner) (inl (call, more)) =
-      all_on frugal back lower g.procedure (suc depth) outermost waiting inner more
-  all_on frugal back lower running depth outermost waiting (g ∷ inner) (inr (operation, more)) = (
-    still operation.pause.watch operation.pause.behind operation.pause.lower operation.pause.still,
-    all_on frugal back lower g.procedure (suc depth) outermost waiting inner more,
-  )
+  where
+    -- What is watched in each of these activations is so still.
+    all_on :
+        (frugal : Allowance) (back : Control) (lower : List Master) (running : Option ℕ) (depth : ℕ) (outermost : Option ℕ) (waiting inner : List Suspension)
+        (w : AreInner program s frugal back lower running depth outermost waiting inner)
+        → AllWatched program s frugal back lower after running depth outermost waiting inner w
+    all_on frugal back lower running depth outermost waiting [] w = tt
+    all_on frugal back lower running depth outermost waiting (g ∷ inner) (inl (call, more)) =
+        all_on frugal back lower g.procedure (suc depth) outermost waiting inner more
+    all_on frugal back lower running depth outermost waiting (g ∷ inner) (inr (operation, more)) = (
+      still operation.pause.watch operation.pause.behind operation.pause.lower operation.pause.still,
+      all_on frugal back lower g.procedure (suc depth) outermost waiting inner more,
+    )
 
-  within_by :
-      (gs : List Suspension) (e : Event) (w : Within program gs s) → after.masters ≡ s.masters → Alters s.heap e after.heap
-      → Frugal (allowance_of (program_form program)) w.outermost.behind (operated_among w.inner) after.mode after.control w.frugal.upper
-      → Within program gs after
-  within_by gs e w masters alters goes =
-      let same : (n : ℕ) → operands_of (drop (suc n) after.activations) ≡ operands_of (drop (suc n) s.activations) =
-      λ n. ap (λ (all : List (Activation Value)). operands_of (drop (suc n) all)) active in
-      let frugal = allowance_of (program_form program) in
-      let last = Some w.outermost.number in
-      let waiting = origin program (length w.inner) s w.outermost ∷ w.outermost.suspensions in
-      record {
-        inner = w.inner;
-        outermost =
-            pause_on program (length w.inner) (length w.inner) s after e w.outermost alters (same (length w.inner))
-            (still w.outermost.watch w.outermost.behind w.outermost.lower w.outermost.still);
-        are = w.are;
-        within =
-            subst (λ (procedure : Option ℕ). AreInner program after frugal w.outermost.behind w.outermost.lower procedure 0 last waiting w.inner)
-            (sym (ap procedure_of active))
-            (inner_on program s frugal w.outermost.behind w.outermost.lower after e (running_procedure s) 0 0 last waiting w.inner w.within alters
-            (λ n. same (0 + n))
-            (all_on frugal w.outermost.behind w.outermost.lower (running_procedure s) 0 last waiting w.inner w.within));
-        frugal = record {
-          upper = w.frugal.upper;
-          masters = masters ∙ w.frugal.masters;
-          frugally = goes;
-        };
-        untreated = w.untreated;
-        calm = w.calm;
-        settled = w.settled;
-        may = w.may;
-      }
+    within_by :
+        (gs : List Suspension) (e : Event) (w : Within program gs s) → after.masters ≡ s.masters → Alters s.heap e after.heap
+        → Frugal (allowance_of (program_form program)) w.outermost.behind (operated_among w.inner) after.mode after.control w.frugal.upper
+        → Within program gs after
+    within_by gs e w masters alters goes =
+        let same : (n : ℕ) → operands_of (drop (suc n) after.activations) ≡ operands_of (drop (suc n) s.activations) =
+        λ n. ap (λ (all : List (Activation Value)). operands_of (drop (suc n) all)) active in
+        let frugal = allowance_of (program_form program) in
+        let last = Some w.outermost.number in
+        let waiting = origin program (length w.inner) s w.outermost ∷ w.outermost.suspensions in
+        record {
+          inner = w.inner;
+          outermost =
+              pause_on program (length w.inner) (length w.inner) s after e w.outermost alters (same (length w.inner))
+              (still w.outermost.watch w.outermost.behind w.outermost.lower w.outermost.still);
+          are = w.are;
+          within =
+              subst (λ (procedure : Option ℕ). AreInner program after frugal w.outermost.behind w.outermost.lower procedure 0 last waiting w.inner)
+              (sym (ap procedure_of active))
+              (inner_on program s frugal w.outermost.behind w.outermost.lower after e (running_procedure s) 0 0 last waiting w.inner w.within alters
+              (λ n. same (0 + n))
+              (all_on frugal w.outermost.behind w.outermost.lower (running_procedure s) 0 last waiting w.inner w.within));
+          frugal = record {
+            upper = w.frugal.upper;
+            masters = masters ∙ w.frugal.masters;
+            frugally = goes;
+          };
+          untreated = w.untreated;
+          calm = w.calm;
+          settled = w.settled;
+          may = w.may;
+        }
 
 -- So it is while no object changes but one whose treatment goes on behind: what is watched is another one.
 module _ (program : Program) (s after : State) (o : Id) (going : GoesOnBehind o s.control) (others : OthersStay o s.heap after.heap)

@@ -271,8 +271,7 @@ module _ (program : Program) (well : IsWellFormed (program_form program)) (uses 
         let ended = λ (d : Deed). parts_do (does_by p d) Finalize (record_at p.types access) in
         let none = or_parts (begun (freeing u) || ended (freeing u)) (begun (following u) || ended (following u)) reaches in
         let frees = or_parts (begun (freeing u)) (ended (freeing u)) none.0 in
-        let follows = or_parts (begun (following u)) (ended (following u)) none.1 in
-        (
+        let follows = or_parts (begun (following u)) (ended (following u)) none.1 in (
           λ overrides. operation_shuns Initialize access of part number operable overrides (initialize_frugal of number overrides) frees.0 follows.0,
           λ overrides. operation_shuns Finalize access of part number operable overrides (finalize_frugal of number overrides) frees.1 follows.1,
         )
