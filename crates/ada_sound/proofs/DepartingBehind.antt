@@ -61,16 +61,16 @@ module _ (p : ProgramForm) (shuns : ℕ → Bool) (apart : Apart) (ghosts : Id �
   -- Behind a frame that ends no body, less of them is left, in the same masters, or in all of these but the innermost one.
   pub left_behind : (procedure : Option ℕ) (f : Frame Value) (k : Control) (own : List Master) (suspended : List (Activation Value)) → is_return f ≡ false
       → Left procedure (f ∷ k) own suspended → (outer : List Master) × Left procedure k outer suspended
-  left_behind procedure (Returns actuals references) k own suspended no left = absurd (cc no)
-  left_behind procedure (frame.Elaborates ds fs hs) k [] suspended no left = absurd left.2
-  left_behind procedure (frame.Elaborates ds fs hs) k (m ∷ own) suspended no left = (own, left.2.1)
-  left_behind procedure frame.Closes k [] suspended no left = absurd left.2
-  left_behind procedure frame.Closes k (m ∷ own) suspended no left = (own, left.2.1)
-  left_behind procedure (Leaves mode) k [] suspended no left = absurd left.2
-  left_behind procedure (Leaves mode) k (m ∷ own) suspended no left = (own, left.2.1)
-  left_behind procedure (frame.Declares x) k [] suspended no left = absurd left.2
-  left_behind procedure (frame.Declares x) k (m ∷ own) suspended no left = (m ∷ own, left.2)
-  left_behind procedure f k own suspended no left = (own, left.2)
+  left_behind procedure (Returns actuals references) k own suspended none left = absurd (cc none)
+  left_behind procedure (frame.Elaborates ds fs hs) k [] suspended none left = absurd left.2
+  left_behind procedure (frame.Elaborates ds fs hs) k (m ∷ own) suspended none left = (own, left.2.1)
+  left_behind procedure frame.Closes k [] suspended none left = absurd left.2
+  left_behind procedure frame.Closes k (m ∷ own) suspended none left = (own, left.2.1)
+  left_behind procedure (Leaves mode) k [] suspended none left = absurd left.2
+  left_behind procedure (Leaves mode) k (m ∷ own) suspended none left = (own, left.2.1)
+  left_behind procedure (frame.Declares x) k [] suspended none left = absurd left.2
+  left_behind procedure (frame.Declares x) k (m ∷ own) suspended none left = (m ∷ own, left.2)
+  left_behind procedure f k own suspended none left = (own, left.2)
 
   -- Where an operation runs behind that end, one runs in front of it.
   module _ (waits : NoOperationRuns behind → ⊥) where
@@ -143,7 +143,7 @@ module _ (p : ProgramForm) (shuns : ℕ → Bool) (apart : Apart) (ghosts : Id �
     operated_calm among (frame.Confines ∷ k) ms calm_there (vs, is, inl (ending, q)) = back_waits (frugal_calm frugal back vs Running k ms calm_there (inl q))
     operated_calm among (frame.Confines ∷ k) ms calm_there (vs, is, inr (ending, q)) =
         back_waits (frugal_calm frugal back vs Running k ms calm_there (inr (inl (may_leave k, q))))
-    operated_calm among (frame.Awaits v by done of part tasks ∷ k) ms calm_there (vs, is, beginning, q) =
+    operated_calm among (frame.Awaits v by done of part tasks ∷ k) ms calm_there (vs, is, starts, q) =
         back_waits (frugal_calm frugal back vs Running k ms calm_there (inl q))
     operated_calm among (f ∷ k) ms calm_there q = q
 
@@ -199,7 +199,7 @@ module _ (p : ProgramForm) (shuns : ℕ → Bool) (apart : Apart) (ghosts : Id �
       operated_same among [] ms procedure own suspended q left = absurd q
       operated_same among (frame.Confines ∷ k) ms procedure own suspended (vs, is, inl (ending, q)) left = leads_same vs k ms procedure own suspended q left.2
       operated_same among (frame.Confines ∷ k) ms procedure own suspended (vs, is, inr (ending, q)) left = leaves_same vs k ms procedure own suspended q left.2
-      operated_same among (frame.Awaits v by done of part tasks ∷ k) ms procedure own suspended (vs, is, beginning, q) left =
+      operated_same among (frame.Awaits v by done of part tasks ∷ k) ms procedure own suspended (vs, is, starts, q) left =
           leads_same vs k ms procedure own suspended q left.2
       operated_same among (f ∷ k) ms procedure own suspended q left = absurd q
 

@@ -111,11 +111,11 @@ pub meters : FinishesAfter metering_events metering
 unfolding next
 meters =
     halts_after_in metering metering_bodies equipping_stmts no_handlers metering_has metering_does refl []
-    (steps 7 ++ grants true ∷ steps 25 ++ takes 0 ∷ steps 22 ++ takes 0 ∷ steps 29) metering_events Finished refl refl refl
+    (steps 7 ++ grants true ∷ steps 25 ++ takes 0 ∷ steps 16 ++ takes 0 ∷ steps 31) metering_events Finished refl refl refl
 
 -- The statement of that Finalize begins: flow speaks of that.
 abbrev to_statements : List Choice
-to_statements = steps 7 ++ grants true ∷ steps 25 ++ takes 0 ∷ steps 13
+to_statements = steps 7 ++ grants true ∷ steps 25 ++ takes 0 ∷ steps 8
 
 abbrev inside : State
 inside = last metering [] metering_bodies equipping_stmts no_handlers to_statements
