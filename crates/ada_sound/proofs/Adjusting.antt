@@ -8,7 +8,7 @@ use Rattle.ada_parts.specs.Part as parts
 use Rattle.ada_parts.specs.Task.{Task}
 use Rattle.ada_program.specs.declared.program.Exception.{Exception}
 use Rattle.ada_program.specs.declared.program.Program.{Program}
-use Rattle.ada_program.specs.ProgramForm.{BodyForm, TypeForm, program_form}
+use Rattle.ada_program.specs.ProgramForm.{BodyForm, program_form}
 use Rattle.ada_deeds.specs.Implicit.{implicit_of}
 use Rattle.ada_flow.specs.Flow.{Holds, Keeping, tracks_of}
 use Rattle.ada_meaning.specs.declared.event.Birth.{Birth}

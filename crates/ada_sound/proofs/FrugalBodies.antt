@@ -1,7 +1,7 @@
 -- A frugal body (7.6, 7.6.1, 13.11.2) creates no collection, and the record objects that it declares name nothing (3.8); so it is with those that it calls
 -- (6.4): it nests wherever it is called.
 
-use Rattle.std.proofs.Common.{◌≡◌, ℕ, zero, suc, Bool, true, false, ◌&&◌, List, [], ◌∷◌, ◌++◌, refl}
+use Rattle.std.proofs.Common.{◌≡◌, ℕ, zero, suc, Bool, true, false, List, [], ◌∷◌, ◌++◌, refl}
 use Rattle.std.specs.List.{list_all, slice_get, slice_index_or}
 use Rattle.std.specs.Prelude.{Option, Some, None}
 use Rattle.std.proofs.lemmas.Bool.{and_from, and_parts}

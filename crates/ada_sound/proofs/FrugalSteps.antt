@@ -1,7 +1,7 @@
 -- Any step of a frugal body (7.6, 7.6.1, 13.11.2) in front of its end leads on in it, or in one that it calls (6.4), or to the end of an object that it frees,
 -- or whose master it leaves, or to the beginning of one that it allocates or declares (4.8, 3.3.1).
 
-use Rattle.std.proofs.Common.{◌≡◌, ℕ, suc, Bool, true, false, if◌then◌else◌, List, [], ◌∷◌, ◌++◌, length, refl, sym, ap, ◌∙◌, subst, ◌⊎◌, inl, inr}
+use Rattle.std.proofs.Common.{◌≡◌, ℕ, suc, Bool, true, false, if◌then◌else◌, List, [], ◌∷◌, ◌++◌, length, refl, subst, ◌⊎◌, inl, inr}
 use Rattle.std.specs.Prelude.{Option, Some, None, ◌||◌, ◌==◌}
 use Rattle.std.specs.List.{slice_get, slice_index_or}
 use Rattle.ada_program.specs.declared.program.Exception.{Exception}
@@ -32,15 +32,14 @@ use Rattle.ada_meaning.specs.State.{Activation, Master, home_of}
 use Rattle.ada_meaning.specs.Step.{halts, picks, treating, direction_of, picked_task, treated_on, operation_next, ended_next, finalized_next, performed_next, treats_next, first_or, places_of, operands_of, operand_count, newest_ones, frame_next, landed, jump_next, mode_next, born_next, begun_next, beginning}
 use Rattle.ada_meaning.specs.Named.{Object, State, Next, named, next, look, lent, finalize}
 use Rattle.ada_quiet.proofs.FrugalAt.{frugal_at}
-use Rattle.ada_typed.specs.Holding.{cells_of}
 use Rattle.ada_typed.proofs.Bodies.{own_bodies}
 use Rattle.ada_typed.proofs.Control as typed
 use Rattle.ada_typed.proofs.Control.{OwnBody}
 use Rattle.ada_typed.proofs.Kept.{Each, crosses as crosses_by, is_treatment}
 use Rattle.ada_sound.proofs.Allowance.{Allowance, allowance_of, are_thrifty, are_thrifty_handlers, is_thrifty_body, body_thrifty}
 use Rattle.ada_sound.specs.Agreement.{running_procedure}
-use Rattle.ada_sound.proofs.Calm.{ends_operation, operation_ends_there}
-use Rattle.ada_sound.proofs.Invariant.{Control, IsAwaited}
+use Rattle.ada_sound.proofs.Calm.{ends_operation}
+use Rattle.ada_sound.proofs.Invariant.{Control}
 use Rattle.ada_sound.proofs.OperationStarts.{apart}
 use Rattle.ada_sound.proofs.FrugalControl.{FrugalLeads, FrugalLeaves, MayLeave, Frugal, is_return_first, none_treated, none_left, treating_leads, treating_leaves, Frugally, GoesFrugally, BeginsThere, FrugalBegins, beginning_frugal, begins_first, leads_first, none_beginning}
 use Rattle.ada_sound.proofs.Standing.{FreesAmong}

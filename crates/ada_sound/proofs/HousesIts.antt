@@ -1,13 +1,13 @@
 -- Where a master is left (7.6.1), each object that goes with its newest item is of the type that the item is the home of.
 
-use Rattle.std.proofs.Common.{◌≡◌, Bool, true, false, List, [], ◌∷◌, ◌++◌, refl}
-use Rattle.std.specs.Prelude.{Some, ◌==◌}
+use Rattle.std.proofs.Common.{◌≡◌, List, [], ◌∷◌, ◌++◌, refl}
+use Rattle.std.specs.Prelude.{◌==◌}
 use Rattle.std.proofs.lemmas.Bool.{and_parts, eqb-true}
 use Rattle.ada_meaning.specs.declared.state.Id.{Id}
 use Rattle.ada_meaning.specs.Frame.{Leaves}
 use Rattle.ada_meaning.specs.Law.{items_of}
-use Rattle.ada_meaning.specs.State.{Item, Master, type_housed}
-use Rattle.ada_meaning.specs.Named.{Object, is_member, object_at}
+use Rattle.ada_meaning.specs.State.{Item, Master}
+use Rattle.ada_meaning.specs.Named.{Object}
 use Rattle.ada_reaching.specs.Law.{FirstHousesIts, InnermostHousesIts, NewestHousesIts}
 use Rattle.ada_sound.proofs.Invariant.{Control}
 use Rattle.ada_sound.proofs.Items.{houses_type, newest_is}
