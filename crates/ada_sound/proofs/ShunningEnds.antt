@@ -201,7 +201,7 @@ module _ (program : Program) (well : IsWellFormed (program_form program)) (uses 
   called_frugal :
       (of number : ℕ) (treatment : Treatment) → ¬ AdjustsCopy treatment → IsCalled (operations_of program.types.items of) treatment number
       → is_frugal_one p (slice_get p.bodies number) ≡ true
-  called_frugal of number treatment none called = by (slice_get p.bodies number) refl
+  called_frugal of number treatment none overrides = by (slice_get p.bodies number) refl
     where
       as_used : (b : BodyForm) → IsUsedAs p of number treatment b → is_frugal_body (thrift_of p) b ≡ true
       as_used b (inl (plain, lets)) = frugal_body (thrift_of p) p.types b plain.plain
@@ -210,7 +210,7 @@ module _ (program : Program) (well : IsWellFormed (program_form program)) (uses 
 
       by : (found : Option BodyForm) → slice_get p.bodies number ≡ found → is_frugal_one p found ≡ true
       by None there = refl
-      by (Some b) there = as_used b (used_as program uses well of number b there treatment (λ copies. absurd (none copies)) called)
+      by (Some b) there = as_used b (used_as program uses well of number b there treatment (λ copies. absurd (none copies)) overrides)
 
   -- So what overrides Finalize is: it is called for an object that is freed.
   finalize_frugal :
