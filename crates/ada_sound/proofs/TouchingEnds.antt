@@ -347,7 +347,7 @@ module _ (program : Program) (well : IsWellFormed (program_form program)) (s : S
   -- So it is, before the component becomes null that is freed: it owned the object alone.
   releasing_ends : (cause : Cause) → IsEnd cause → f.treatment ≡ ends cause → (r : Releases own f.watch f.object f.access f.home f.places f.after f.rooms f.holds) → Ending own f.object (frame.GivesBack (Names f.object) (Freeing r.number) f.home.pool ∷ frame.ClearsIn (Names r.w.holder) r.c ∷ r.rest) s.heap f.places f.lower
   releasing_ends cause end is r =
-      let still : Watched program (Some r.w) f.behind s = subst (λ (watch : Option Watch). Watched program watch f.behind s) r.watched f.still in
+      let still : Watched program (Some r.w) f.behind f.lower s = subst (λ (watch : Option Watch). Watched program watch f.behind f.lower s) r.watched f.still in
       record {
         object = f.x;
         found = f.found;
