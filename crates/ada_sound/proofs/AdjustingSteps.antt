@@ -14,7 +14,7 @@ use Rattle.ada_meaning.specs.Event.{Quiet}
 use Rattle.ada_meaning.specs.Frame as frame
 use Rattle.ada_meaning.specs.Frame.{Frame, Leaves}
 use Rattle.ada_meaning.specs.Law.{items_of}
-use Rattle.ada_meaning.specs.Named.{Object, State, Next, next, object_at}
+use Rattle.ada_meaning.specs.Named.{Object, State, Next, all_alive, next, object_at}
 use Rattle.ada_meaning.specs.Run.{Event}
 use Rattle.ada_meaning.specs.State.{Activation, Master}
 use Rattle.ada_meaning.specs.Step.{halts, moves, tells, asks, picks, older, places, operands_of}
