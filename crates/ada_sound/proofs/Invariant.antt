@@ -235,8 +235,8 @@ WillBeCovered implicit p t [] = Unit {0}
 WillBeCovered implicit p t (GivesBack v cause pool ∷ k) = IsCovered implicit p cause t
 WillBeCovered implicit p t (f ∷ k) = Unit {0}
 
--- Objects may be freed only of access types of which no suspended activation has an alias, and of which no call refers to an object; and only of those
--- that the running body may free.
+-- Objects may be freed only of access types of which no suspended activation has an alias, and of which each object that a call refers to is owned outside; and only
+-- of those that the running body may free.
 abbrev pub Spares : Known → (may : ℕ → Bool) → Type 0
 Spares known may = (t : ℕ) → may t ≡ true → NoOuterAlias known.program.types (outers known) t × CoveredIn known.implicit known.program t
 

@@ -371,7 +371,7 @@ module _ (program : Program) {access item : ℕ} {pool : Option ℕ} {ghosts : I
     -- While an operation runs that does not free objects of the collection, and looks at no ghost.
     pub seen_grounds_within : HasHomeThere access item pool s → Untouched none_hidden ghosts s → (IsCalm (behind_call s.control) → ⊥) → may_free program s access ≡ false → Grounds program v
     seen_grounds_within home untouched runs spares =
-        grounds_so (λ so. spares) home (λ w treatment tasks k is. untouched) (λ calm types. absurd (runs (subst (λ (k : Control). IsCalm (behind_call k)) (seen_control seen) calm)))
+        grounds_so (λ so. spares) home (λ w treatment tasks k is. untouched) (λ calm types outer. absurd (runs (subst (λ (k : Control). IsCalm (behind_call k)) (seen_control seen) calm)))
 
     -- Where no operation runs: what is treated next is no ghost.
     module _ (master : ℕ) where
