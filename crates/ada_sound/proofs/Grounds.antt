@@ -40,6 +40,7 @@ use Rattle.ada_sound.proofs.Callers.{Suspension, known_in, Stands, callers_of}
 use Rattle.ada_sound.proofs.CallsApart.{CallApart}
 use Rattle.ada_sound.proofs.FreesInside.{FreesNoneInside}
 use Rattle.ada_sound.proofs.FrugalFrees.{Unborn}
+use Rattle.ada_sound.proofs.Fits.{Outsiders}
 use Rattle.ada_sound.proofs.Invariant.{Control, Ready, under_in}
 use Rattle.ada_sound.proofs.Operating.{IsCalm}
 use Rattle.ada_sound.proofs.Standing.{FinalizesIn, any_type}
@@ -86,7 +87,7 @@ pub record Grounds (program : Program) (s : State) : Type 0 where
   pub typed : typed.Typed (program_form program) s
   pub nested : Scoped (program_form program) s
   -- where no operation runs, each object that may be freed stands, and no treatment finalizes a value that does not exist
-  pub finalizes : IsCalm (behind_call s.control) → (forms : List TypeForm) → FinalizesIn any_type forms program.types.items (body_forms program) s.mode s.control s
+  pub finalizes : IsCalm (behind_call s.control) → (forms : List TypeForm) (outer : Outsiders) → FinalizesIn any_type forms outer program.types.items (body_forms program) s.mode s.control s
   -- no operation runs of an object that does not exist; and none runs of an object that is in its collection, where nothing of it begins; and it stands, if the running body may free it, and is one of an operation,
   -- or is called by one
   pub unborn : Unborn s.heap s.control

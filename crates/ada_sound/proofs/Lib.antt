@@ -197,6 +197,8 @@ pub mod AssignedParts
 pub mod Holders
 -- what Free of a component does
 pub mod Releases
+-- what is freed next
+pub mod FreedInside
 -- record objects are declared
 pub mod Records
 -- records to which others are copied that own something
