@@ -27,7 +27,6 @@ procedure Main is
 begin
    M := new Node;
    M.Number := 3;
-   N.Next := M;
-   Free (N.Next);
+   Free (M);
    Ada.Text_IO.Put_Line ("freed");
 end Main;
