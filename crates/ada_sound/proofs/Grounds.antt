@@ -35,7 +35,7 @@ use Rattle.ada_scopes.proofs.Runs.{Scoped}
 use Rattle.ada_typed.proofs.Control as typed
 use Rattle.ada_typed.proofs.Kept.{behind_call}
 use Rattle.ada_sound.specs.Agreement.{running_procedure}
-use Rattle.ada_sound.specs.Always.{LetsNothingOut, SparesOwn, SparesStarts, reaches_holder}
+use Rattle.ada_sound.specs.Always.{LetsNothingOut, SparesOwn, reaches_holder}
 use Rattle.ada_sound.proofs.Callers.{Suspension, known_in, Stands, callers_of}
 use Rattle.ada_sound.proofs.CallsApart.{CallApart}
 use Rattle.ada_sound.proofs.FreesInside.{FreesNoneInside}
@@ -76,7 +76,6 @@ pub record Grounds (program : Program) (s : State) : Type 0 where
   pub frees_own : FreesItsOwn (program_form program)
   pub spares_own : SparesOwn program
   pub lets_nothing_out : LetsNothingOut (program_form program)
-  pub spares_starts : SparesStarts program
   pub obeys : Obeys program
   -- what is left to do, and values
   pub idle : makes_parts (program_form program) ≡ false → IsIdle (program_form program).types s

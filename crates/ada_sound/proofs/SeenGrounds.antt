@@ -354,7 +354,6 @@ module _ (program : Program) {access item : ℕ} {pool : Option ℕ} {ghosts : I
         frees_own = grounds.frees_own;
         spares_own = grounds.spares_own;
         lets_nothing_out = grounds.lets_nothing_out;
-        spares_starts = grounds.spares_starts;
         obeys = grounds.obeys;
         idle = λ none. record {
           control = subst (ControlIsIdle forms) (sym (seen_control seen)) ((grounds.idle none).control);
