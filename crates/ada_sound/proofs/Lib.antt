@@ -330,6 +330,8 @@ pub mod Shunning
 pub mod ShunningEnds
 -- where its body begins
 pub mod TouchingBegins
+-- what is initialized is owned outside of the bodies that run inside
+pub mod BegunOutside
 pub mod WatchedBegins
 pub mod TouchingStarts
 -- what a body sees
