@@ -2,7 +2,7 @@
 -- was, and each activation that waits keeps the operands that it had. Where a part of an object has been finalized that ends behind, or has been begun of one
 -- that begins, what is watched is another object. So it stays where an exception comes out of what begins the part.
 
-use Rattle.std.proofs.Common.{◌≡◌, ◌≢◌, ℕ, zero, suc, Bool, false, List, [], ◌∷◌, length, drop, refl, sym, ap, ◌∙◌, subst, ◌⊎◌, inl, inr, arith}
+use Rattle.std.proofs.Common.{◌≡◌, ◌≢◌, ℕ, zero, suc, false, List, [], ◌∷◌, length, drop, refl, sym, ap, ◌∙◌, subst, ◌⊎◌, inl, inr, arith}
 use Rattle.std.proofs.Math.Nat.{add-zero}
 use Rattle.std.specs.Prelude.{◌+◌, ◌==◌, Option, Some, None}
 use Rattle.ada_parts.specs.Task.{Task}
@@ -17,7 +17,7 @@ use Rattle.ada_meaning.specs.declared.state.Mode.{Mode}
 use Rattle.ada_meaning.specs.declared.state.Mode.TheVariants.{Raising}
 use Rattle.ada_meaning.specs.declared.state.Value.{Value}
 use Rattle.ada_meaning.specs.declared.state.Value.TheVariants.{Names}
-use Rattle.ada_meaning.specs.Frame.{Treatment, begins, ends}
+use Rattle.ada_meaning.specs.Frame.{ends}
 use Rattle.ada_meaning.specs.Frame as frame
 use Rattle.ada_meaning.specs.Named.{Object, State, object_at}
 use Rattle.ada_meaning.specs.Event.{Quiet}
@@ -156,7 +156,8 @@ OthersStay o before after = (q : Id) → q ≢ o → object_at after q ≡ objec
 
 -- What is around stays around while what is watched is so still, and what is left to do goes on.
 module _ (program : Program) (s after : State) (active : after.activations ≡ s.activations)
-    (still : (watch : Option Watch) (behind : Control) (lower : List Master) → Watched program watch behind lower s → Watched program watch behind lower after) where
+    (still : (watch : Option Watch) (behind : Control) (lower : List Master) → Watched program watch behind lower s → Watched program watch behind lower after)
+    where
   -- What is watched in each of these activations is so still.
   all_on :
       (frugal : Allowance) (back : Control) (lower : List Master) (running : Option ℕ) (depth : ℕ) (outermost : Option ℕ) (waiting inner : List Suspension)
@@ -221,8 +222,9 @@ module _ (program : Program) (s after : State) (o : Id) (going : GoesOnBehind o 
             ends_other p (watches p.types (Some w)) apart (is_watched (Some w)) (is_unnamed p.types (Some w)) behind lower (Names o) ending.cause ending.tasks
             ending.rest (procedure_of s.activations) reaching.upper (older s.activations) (rw ending.is at reaching.control)
         by (inr begun) =
-            let left : LeftShuns p (watches p.types (Some w)) apart (is_watched (Some w)) (is_unnamed p.types (Some w)) behind lower (procedure_of s.activations)
-            (frame.Awaits (Names o) Creation begun.done begun.of begun.part begun.tasks ∷ begun.rest) reaching.upper (older s.activations) =
+            let left : LeftShuns p (watches p.types (Some w)) apart (is_watched (Some w)) (is_unnamed p.types (Some w)) behind lower
+            (procedure_of s.activations) (frame.Awaits (Names o) Creation begun.done begun.of begun.part begun.tasks ∷ begun.rest) reaching.upper
+            (older s.activations) =
             rw begun.is at reaching.control in
             left.0.0
 

@@ -1,7 +1,7 @@
 -- The end of a body while an operation that touches storage is under way (6.5, 7.6.1): that of the outermost operation, of the operation of an object that is
 -- freed, undone, allocated or declared, or whose master is left, or of a procedure that was called.
 
-use Rattle.std.proofs.Common.{◌≡◌, ℕ, Bool, false, List, [], ◌∷◌, refl, sym, ap, subst, ◌∙◌, inl, inr, ◌++◌, ◌+◌, drop, length, suc}
+use Rattle.std.proofs.Common.{◌≡◌, ℕ, List, [], ◌∷◌, refl, sym, ap, subst, ◌∙◌, inl, inr, ◌++◌, ◌+◌, drop, length, suc}
 use Rattle.std.specs.Prelude.{Option, Some}
 use Rattle.ada_finalized.specs.Law.{finalized_before}
 use Rattle.ada_flow.specs.Flow.{Holds}

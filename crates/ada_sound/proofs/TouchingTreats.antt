@@ -1,7 +1,7 @@
 -- An object that is freed or undone, or whose master is left, is finalized while an operation that touches storage is under way (7.6.1, 13.11.2), and one that
 -- is allocated or declared begins (4.8, 3.3.1): its operation begins, inside the other one, or what is left goes on.
 
-use Rattle.std.proofs.Common.{◌≡◌, ◌⊎◌, ℕ, Bool, true, false, List, [], ◌∷◌, ◌++◌, refl, sym, ap, subst, ◌∙◌, inl, inr, ◌+◌, arith, drop, length, suc}
+use Rattle.std.proofs.Common.{◌≡◌, ◌⊎◌, ℕ, true, List, [], ◌∷◌, ◌++◌, refl, sym, ap, subst, ◌∙◌, inl, inr, ◌+◌, arith, drop, length, suc}
 use Rattle.std.specs.Prelude.{Option, Some, None}
 use Rattle.ada_parts.specs.Task.{Task}
 use Rattle.ada_program.specs.declared.program.Program.{Program}

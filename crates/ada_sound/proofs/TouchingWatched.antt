@@ -1,7 +1,7 @@
 -- While the body of an operation runs that touches storage, the object stays as it is in which a component lies that is freed (7.6, 13.11.2): each step of that
 -- body, and of those since then, leaves it alone.
 
-use Rattle.std.proofs.Common.{◌≡◌, ℕ, List, [], ◌∷◌, ◌++◌, ◌∙◌, refl, inl, inr, suc}
+use Rattle.std.proofs.Common.{◌≡◌, ℕ, List, [], ◌∷◌, ◌∙◌, refl, inl, inr, suc}
 use Rattle.std.proofs.lemmas.Bool.{eq-eqb}
 use Rattle.std.specs.Prelude.{Option, Some, None}
 use Rattle.ada_program.specs.declared.program.Program.{Program}
@@ -90,7 +90,8 @@ module _
     pub all_watched :
         (running : Option ℕ) (depth : ℕ) (outermost : Option ℕ) (others inner : List Suspension)
         (are : AreInner program s frugal back lower running depth outermost others inner) → AllGoOnInside running depth outermost others inner are
-        → Each (λ after. AllWatched program s frugal back lower after running depth outermost others inner are) (next program.types.items (body_forms program) s)
+        → Each (λ after. AllWatched program s frugal back lower after running depth outermost others inner are)
+        (next program.types.items (body_forms program) s)
     all_watched running depth outermost others [] are on =
         each_so (λ after. AllWatched program s frugal back lower after running depth outermost others [] are) (λ after. tt)
         (next program.types.items (body_forms program) s)
@@ -98,5 +99,6 @@ module _
     all_watched running depth outermost others (g ∷ inner) (inr (operation, more)) on =
         let pause = operation.pause in
         each_and (Watched program pause.watch pause.behind pause.lower)
-        (λ after. AllWatched program s frugal back lower after g.procedure (suc depth) outermost others inner more) (next program.types.items (body_forms program) s)
+        (λ after. AllWatched program s frugal back lower after g.procedure (suc depth) outermost others inner more)
+        (next program.types.items (body_forms program) s)
         (watched_stays pause.watch pause.behind pause.lower pause.still on.0) (all_watched g.procedure (suc depth) outermost others inner more on.1)

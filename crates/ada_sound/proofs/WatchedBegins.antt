@@ -54,7 +54,8 @@ module _
       (heap : List Object)
       → IsOperable p.types access of part → IsCalled (operations_of program.types.items of) by number → slice_get (body_forms program) number ≡ Some b
       → is_frugal_body (thrift_of p) b ≡ true → IsSpared known by o access heap watch → Stored under heap s.masters
-      → Watched program watch behind s.masters (operating named number b (Part o place) behind (record s { activations = a ∷ rest; heap = heap; mode = Running }))
+      → Watched program watch behind s.masters
+      (operating named number b (Part o place) behind (record s { activations = a ∷ rest; heap = heap; mode = Running }))
   watched_begins by None o access of part number b place behind heap operable called there frugal spared stored = tt
   watched_begins (begins by done) (Some w) o access of part number b place behind heap operable called there frugal spared stored = absurd spared
   watched_begins (ends cause) (Some w) o access of part number b place behind heap operable called there frugal (at, exists, other, spared) stored =
@@ -96,8 +97,9 @@ module _
       low : AreLow (is_watched (Some w)) s.masters heap
       low q x is found =
           let home = home_low heap s.masters w.holder stored (w.is, at, exists) in
-          let here : object_at heap w.holder ≡ Some x = subst (λ (r : Id). object_at heap r ≡ Some x) (sym (id_is w.holder q (is_same w.holder.0 q.0 is))) found in
-          let one : home.0 ≡ x = let there' = home.1 in cc (there', here) in
+          let same : w.holder ≡ q = id_is w.holder q (is_same w.holder.0 q.0 is) in
+          let here : object_at heap w.holder ≡ Some x = subst (λ (r : Id). object_at heap r ≡ Some x) (sym same) found in
+          let one : home.0 ≡ x = let found' = home.1 in cc (found', here) in
           let below = home.2 in
           rw (← one) (omega (arith, below))
 
