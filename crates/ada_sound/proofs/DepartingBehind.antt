@@ -30,7 +30,7 @@ use Rattle.ada_meaning.specs.Step.{moves, older, operands, places, procedure_of,
 use Rattle.ada_reaching.specs.Apart.{Apart}
 use Rattle.ada_reaching.specs.Law.{FirstHousesIts, NewestHousesIts, none_hidden}
 use Rattle.ada_reaching.specs.Reaching.{AreOwnedApart, IsOwnedApart, IsReaching, LeftShuns, none_unnamed}
-use Rattle.ada_scopes.proofs.Control.{Nested, standing, beginning, parting}
+use Rattle.ada_scopes.proofs.Control as nesting
 use Rattle.ada_scopes.proofs.Homes.{HasHome, Housed, ItemsFit, OwnedFits, fit_after, housed_after}
 use Rattle.ada_scopes.proofs.Runs.{Scoped}
 use Rattle.ada_typed.proofs.Kept.{behind_call}
@@ -61,16 +61,16 @@ module _ (p : ProgramForm) (shuns : ℕ → Bool) (apart : Apart) (ghosts : Id �
   -- Behind a frame that ends no body, less of them is left, in the same masters, or in all of these but the innermost one.
   pub left_behind : (procedure : Option ℕ) (f : Frame Value) (k : Control) (own : List Master) (suspended : List (Activation Value)) → is_return f ≡ false
       → Left procedure (f ∷ k) own suspended → (outer : List Master) × Left procedure k outer suspended
-  left_behind procedure (Returns actuals references) k own suspended no left = absurd (cc no)
-  left_behind procedure (frame.Elaborates ds fs hs) k [] suspended no left = absurd left.2
-  left_behind procedure (frame.Elaborates ds fs hs) k (m ∷ own) suspended no left = (own, left.2.1)
-  left_behind procedure frame.Closes k [] suspended no left = absurd left.2
-  left_behind procedure frame.Closes k (m ∷ own) suspended no left = (own, left.2.1)
-  left_behind procedure (Leaves mode) k [] suspended no left = absurd left.2
-  left_behind procedure (Leaves mode) k (m ∷ own) suspended no left = (own, left.2.1)
-  left_behind procedure (frame.Declares x) k [] suspended no left = absurd left.2
-  left_behind procedure (frame.Declares x) k (m ∷ own) suspended no left = (m ∷ own, left.2)
-  left_behind procedure f k own suspended no left = (own, left.2)
+  left_behind procedure (Returns actuals references) k own suspended goes_on left = absurd (cc goes_on)
+  left_behind procedure (frame.Elaborates ds fs hs) k [] suspended goes_on left = absurd left.2
+  left_behind procedure (frame.Elaborates ds fs hs) k (m ∷ own) suspended goes_on left = (own, left.2.1)
+  left_behind procedure frame.Closes k [] suspended goes_on left = absurd left.2
+  left_behind procedure frame.Closes k (m ∷ own) suspended goes_on left = (own, left.2.1)
+  left_behind procedure (Leaves mode) k [] suspended goes_on left = absurd left.2
+  left_behind procedure (Leaves mode) k (m ∷ own) suspended goes_on left = (own, left.2.1)
+  left_behind procedure (frame.Declares x) k [] suspended goes_on left = absurd left.2
+  left_behind procedure (frame.Declares x) k (m ∷ own) suspended goes_on left = (m ∷ own, left.2)
+  left_behind procedure f k own suspended goes_on left = (own, left.2)
 
   -- Where an operation runs behind that end, one runs in front of it.
   module _ (waits : NoOperationRuns behind → ⊥) where
@@ -313,11 +313,11 @@ first_houses (Leaves mode ∷ k) heap (m ∷ ms) falls housed = newest_houses he
 first_houses k heap ms falls housed = tt
 
 -- Where collections nest, each object that is in its collection has that among the items.
-nested_housed : (types : List TypeForm) (callees : Callees) (calling : Bool) (s : State) → Nested types callees calling s → Housed s.heap (items_of s.masters)
-nested_housed types callees calling s (standing ss w n) = w.housed
-nested_housed types callees calling s (beginning b) =
+nested_housed : (types : List TypeForm) (callees : Callees) (calling : Bool) (s : State) → nesting.Nested types callees calling s → Housed s.heap (items_of s.masters)
+nested_housed types callees calling s (nesting.standing ss w n) = w.housed
+nested_housed types callees calling s (nesting.beginning b) =
     subst (λ (ms : List Master). Housed s.heap (items_of ms)) (sym b.masters) (housed_after s.heap b.m.items (items_of b.rest) b.growing.housed)
-nested_housed types callees calling s (parting ss w runs goes) = w.housed
+nested_housed types callees calling s (nesting.parting ss w runs goes) = w.housed
 
 -- So in such a state each object that goes with the newest item of a master that is left is of that item's type.
 pub scoped_houses : (p : ProgramForm) (s : State) → Scoped p s → AllPairs Falls (items_of s.masters) → FirstHousesIts s.control s.heap s.masters
