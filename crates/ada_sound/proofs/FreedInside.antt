@@ -20,7 +20,7 @@ use Rattle.ada_meaning.specs.State.{Master}
 use Rattle.ada_meaning.specs.Step.{first_or}
 use Rattle.ada_owners.specs.Keeping.{IsThere}
 use Rattle.ada_program.specs.Form.{PathForm, StmtsForm, a_stmt, frees}
-use Rattle.ada_program.specs.ProgramForm.{VariableForm}
+use Rattle.ada_program.specs.ProgramForm.{TypeForm, VariableForm}
 use Rattle.ada_program.specs.WellFormed.{path_access}
 use Rattle.ada_sound.proofs.Fits.{IsOwn, IsOwnedOutside, IsSaid, MayFollow, component_inside, place_at, variable_inside}
 use Rattle.ada_sound.proofs.Invariant.{Control, Goes, HalfBy, Known, ReadyIn, Releasing, RunsOn, Working, outers, ways}
@@ -40,13 +40,18 @@ never_breaks variables implicit None spot rule more raised g = g
 never_breaks variables implicit (Some t) spot rule more raised g = g
 
 -- A variable that is freed, and names an object, owns that.
-module _ (variables : List VariableForm) (implicit : Implicit) (access : Option ℕ) (x : ℕ) (spot : Spot) (holds : Holds) (given v : Value) (o : Id) (names : v ≡ Names o) (more raised : Holds → Type 0) where
-  released_owns : (h : Hold) → Goes (finalizes variables implicit access (released variables x spot holds h)) more raised → IsSaid given h v → IsOwn h
+module _ (types : List TypeForm) (variables : List VariableForm) (implicit : Implicit) (access : Option ℕ) (path : PathForm) (holds : Holds) (given v : Value) (o : Id) (names : v ≡ Names o) (more raised : Holds → Type 0) where
+  released_owns : (h : Hold) → Goes (finalizes variables implicit access (released variables path.root path.spot holds h)) more raised → IsSaid given h v → IsOwn h
   released_owns hold.Null g said = absurd (cc (said, names))
   released_owns (hold.Kept r) g said = tt
   released_owns (hold.Own r) g said = tt
-  released_owns (hold.Alias r) g said = absurd (never_breaks variables implicit access spot _ more raised g)
-  released_owns hold.Lost g said = absurd (never_breaks variables implicit access spot _ more raised g)
+  released_owns (hold.Alias r) g said = absurd (never_breaks variables implicit access path.spot _ more raised g)
+  released_owns hold.Lost g said = absurd (never_breaks variables implicit access path.spot _ more raised g)
+
+  freed_owns : (cs : List ℕ) → cs ≡ [] → Goes (finalizes variables implicit access (frees_seen types variables no_tracks false implicit cs path holds)) more raised
+      → IsSaid given (hold_at holds path.root) v → IsOwn (hold_at holds path.root)
+  freed_owns [] alone g said = released_owns (hold_at holds path.root) g said
+  freed_owns (c ∷ cs) alone g said = absurd (cc alone)
 
 module _ (known : Known) (heap : List Object) (places operands : List Value) (masters : List Master) (o : Id) where
   variable_freed : (access : ℕ) (path : PathForm) (fs : StmtsForm) (k : Control) → path.selectors ≡ [] → place_at places path.root ≡ Names o
@@ -56,8 +61,8 @@ module _ (known : Known) (heap : List Object) (places operands : List Value) (ma
       let variables = known.program.variables in
       let begun = starts known (frees access path) fs k (ways known k w.rooms) w.holds w.rest in
       let own : IsOwn (hold_at w.holds path.root) =
-      released_owns variables known.implicit (path_access types variables path) path.root path.spot w.holds (place_at (outers known).given path.root) (place_at places path.root) o names _ _
-      (hold_at w.holds path.root) (rw alone at (begun.1)) (w.fit.said path.root) in
+      freed_owns types variables known.implicit (path_access types variables path) path w.holds (place_at (outers known).given path.root) (place_at places path.root) o names
+      _ _ path.selectors alone begun.1 (w.fit.said path.root) in
       variable_inside path.root o own names w.fit outside
 
   -- A take pair is no Free.
@@ -76,5 +81,5 @@ module _ (known : Known) (heap : List Object) (places operands : List Value) (ma
   freed_inside [] r next outside = next
   freed_inside (Does (a_stmt (frees access path) fs) ∷ k) (inl w) next outside = variable_freed access path fs k next.0 next.1 w outside
   freed_inside (Does (a_stmt (frees access path) fs) ∷ k) (inr half) next outside = half_frees access path fs k half
-  freed_inside (FreesIn access c ∷ k) r next outside = component_freed access c k next.0 next.1 (first_or Null operands) next.2.0 next.2.1 next.2.2 r outside
+  freed_inside (FreesIn access c ∷ k) r next outside = component_freed access c k next.0 next.1 (first_or Null operands) next.2 next.3 next.4 r outside
   freed_inside (f ∷ k) r next outside = next
