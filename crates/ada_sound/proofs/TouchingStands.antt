@@ -430,7 +430,7 @@ module _ (program : Program) (spares : SparesOwn program) (s : State) where
     pub covers_outermost :
         (procedure : Option ℕ) (depth number : ℕ) (others inner : List Suspension) → AreInner program s frugal back lower procedure depth (Some number) others inner
         → AllWait (implicit_of p) (seen_in procedure p) (callers_of program (inner ++ others)) → (t : ℕ) → Covers procedure t → Covers (Some number) t
-    covers_outermost procedure depth number others [] w waits t covered = subst (λ (own : Option ℕ). Covers own t) w.0 covered
+    covers_outermost procedure depth number others [] w waits t covered = subst (λ (own : Option ℕ). Covers own t) w covered
     covers_outermost procedure depth number others (g ∷ inner) (inl (call, more)) waits t covered =
         covers_outermost g.procedure (suc depth) number others inner more waits.1 t (waits_covers waits.0 t covered)
     covers_outermost procedure depth number others (g ∷ inner) (inr (operation, more)) waits t covered =
@@ -441,7 +441,7 @@ module _ (program : Program) (spares : SparesOwn program) (s : State) where
         (procedure : Option ℕ) (depth number : ℕ) (others inner : List Suspension) → AreInner program s frugal back lower procedure depth (Some number) others inner
         → AllWait (implicit_of p) (seen_in procedure p) (callers_of program (inner ++ others)) → (o : Id) (x : Object) → object_at s.heap o ≡ Some x → is_access p.types x.cell.access ≡ true
         → Covers procedure x.cell.access → (Covers (Some number) x.cell.access → IsUnder (under_in (callers_of program others)) o → ⊥) → IsUnder (under_in (callers_of program (inner ++ others))) o → ⊥
-    none_in procedure depth number others [] w waits o x found of covered behind under = behind (subst (λ (own : Option ℕ). Covers own x.cell.access) w.0 covered) under
+    none_in procedure depth number others [] w waits o x found of covered behind under = behind (subst (λ (own : Option ℕ). Covers own x.cell.access) w covered) under
     none_in procedure depth number others (g ∷ inner) (inl (call, more)) waits o x found of covered behind under =
         elim (either_one g.under (under_in (callers_of program (inner ++ others))) o under) [
           | inl here ↦ subst (λ (under' : List Id). IsUnder under' o) call.1 here
