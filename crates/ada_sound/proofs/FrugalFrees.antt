@@ -265,7 +265,7 @@ module _ (p : ProgramForm) (whole : OwnBody p) where
       let nowhere : typed.Goes p (cells_of s.heap) Running s.control = rw same at goes in
       absurd nowhere
 
--- No such object of these access types that is in its collection has an operation that runs behind this (7.6.1).
+-- None of these objects that is of one of these access types, and in its collection, has an operation that runs behind this (7.6.1).
 abbrev pub ListedAlone : (may : ℕ → Bool) → (Id → Type 0) → List Object → Control → Type 0
 ListedAlone may Freed heap k =
     (o : Id) (x : Object) → Freed o → object_at heap o ≡ Some x → x.listed ≡ true → may x.cell.access ≡ true → NoOperationRunsOn (Names o) k

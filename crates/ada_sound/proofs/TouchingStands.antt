@@ -464,7 +464,7 @@ module _ (program : Program) (spares : SparesOwn program) (s : State) where
     operated_first running depth others among g operation =
         ap (λ (waiting : Suspension). operated_in waiting.control) operation.is ∙ operated_is program depth s operation.pause
 
-    -- Nor is one whose operation they wait for, if it is not owned outside.
+    -- Nor is an object that the running body may free one whose operation they wait for, if it is not owned outside.
     pub operated_apart :
         (procedure : Option ℕ) (depth number : ℕ) (others inner : List Suspension) → AreInner program s frugal back lower procedure depth (Some number) others inner
         → AllWait (implicit_of p) (seen_in procedure p) (callers_of program (inner ++ others)) → (o : Id) (x : Object) → object_at s.heap o ≡ Some x → is_access p.types x.cell.access ≡ true
