@@ -1,6 +1,6 @@
 -- What is freed next (13.11.2): a variable of the running activation owns it, or a component does. So no variable of a suspended activation does.
 
-use Rattle.std.proofs.Common.{◌≡◌, ℕ, List, [], ◌∷◌, ◌⊎◌, refl, inl, inr}
+use Rattle.std.proofs.Common.{◌≡◌, ℕ, List, [], ◌∷◌, refl, inl, inr}
 use Rattle.std.specs.Prelude.{Option, Some, None, false}
 use Rattle.std.specs.List.{slice_get}
 use Rattle.ada_text.specs.declared.spot.Spot.{Spot}
@@ -35,12 +35,16 @@ IsFreedNext heap places operands (FreesIn access c ∷ k) o =
 IsFreedNext heap places operands (f ∷ k) o = ⊥
 
 -- What breaks a rule does so, whatever its finalization may free.
-never_breaks : (variables : List VariableForm) (implicit : Implicit) (access : Option ℕ) (spot : Spot) (rule : Rule) (more raised : Holds → Type 0) → Goes (finalizes variables implicit access (faults spot rule)) more raised → ⊥
+never_breaks :
+    (variables : List VariableForm) (implicit : Implicit) (access : Option ℕ) (spot : Spot) (rule : Rule) (more raised : Holds → Type 0)
+    → Goes (finalizes variables implicit access (faults spot rule)) more raised → ⊥
 never_breaks variables implicit None spot rule more raised g = g
 never_breaks variables implicit (Some t) spot rule more raised g = g
 
 -- A variable that is freed, and names an object, owns that.
-module _ (types : List TypeForm) (variables : List VariableForm) (implicit : Implicit) (access : Option ℕ) (path : PathForm) (holds : Holds) (given v : Value) (o : Id) (names : v ≡ Names o) (more raised : Holds → Type 0) where
+module _
+    (types : List TypeForm) (variables : List VariableForm) (implicit : Implicit) (access : Option ℕ) (path : PathForm) (holds : Holds) (given v : Value) (o : Id)
+    (names : v ≡ Names o) (more raised : Holds → Type 0) where
   released_owns : (h : Hold) → Goes (finalizes variables implicit access (released variables path.root path.spot holds h)) more raised → IsSaid given h v → IsOwn h
   released_owns hold.Null g said = absurd (cc (said, names))
   released_owns (hold.Kept r) g said = tt
@@ -61,15 +65,17 @@ module _ (known : Known) (heap : List Object) (places operands : List Value) (ma
       let variables = known.program.variables in
       let begun = starts known (frees access path) fs k (ways known k w.rooms) w.holds w.rest in
       let own : IsOwn (hold_at w.holds path.root) =
-      freed_owns types variables known.implicit (path_access types variables path) path w.holds (place_at (outers known).given path.root) (place_at places path.root) o names
-      _ _ path.selectors alone begun.1 (w.fit.said path.root) in
+      freed_owns types variables known.implicit (path_access types variables path) path w.holds (place_at (outers known).given path.root) (place_at places path.root)
+      o names _ _ path.selectors alone begun.1 (w.fit.said path.root) in
       variable_inside path.root o own names w.fit outside
 
   -- A take pair is no Free.
   half_frees : (access : ℕ) (path : PathForm) (fs : StmtsForm) (k : Control) → HalfBy known (Does (a_stmt (frees access path) fs) ∷ k) heap places masters → ⊥
   half_frees access path fs k h = let is = h.is in cc is
 
-  component_freed : (access c : ℕ) (k : Control) (p : Id) (holder : Object) (v : Value) → v ≡ Names p → object_at heap p ≡ Some holder → slice_get holder.cell.values c ≡ Some (Names o)
+  component_freed :
+      (access c : ℕ) (k : Control) (p : Id) (holder : Object) (v : Value) → v ≡ Names p → object_at heap p ≡ Some holder
+      → slice_get holder.cell.values c ≡ Some (Names o)
       → Working known heap places masters (λ rooms holds. MayFollow heap v × Releasing known heap v [] access c k rooms holds) → IsOwnedOutside (outers known) o → ⊥
   component_freed access c k p holder v is found at w outside =
       let there : IsThere heap p = rw is at (w.rest.0) in
@@ -77,9 +83,11 @@ module _ (known : Known) (heap : List Object) (places operands : List Value) (ma
       component_inside p holder c o refl found (rw one at (there.2)) at w.fit outside
 
   -- What is freed next is not owned outside.
-  pub freed_inside : (k : Control) → ReadyIn known Running k heap places operands masters → IsFreedNext heap places operands k o → IsOwnedOutside (outers known) o → ⊥
+  pub freed_inside :
+      (k : Control) → ReadyIn known Running k heap places operands masters → IsFreedNext heap places operands k o → IsOwnedOutside (outers known) o → ⊥
   freed_inside [] r next outside = next
   freed_inside (Does (a_stmt (frees access path) fs) ∷ k) (inl w) next outside = variable_freed access path fs k next.0 next.1 w outside
   freed_inside (Does (a_stmt (frees access path) fs) ∷ k) (inr half) next outside = half_frees access path fs k half
-  freed_inside (FreesIn access c ∷ k) r next outside = component_freed access c k next.0 next.1 (first_or Null operands) next.2 next.3 next.4 r outside
+  freed_inside (FreesIn access c ∷ k) r next outside =
+      component_freed access c k next.0 next.1 (first_or Null operands) next.2 next.3 next.4 r outside
   freed_inside (f ∷ k) r next outside = next
