@@ -56,7 +56,7 @@ use Rattle.ada_sound.proofs.Alters.{Alters, alters_set, alters_then}
 use Rattle.ada_sound.proofs.BlankedBegins.{MayBeNamed, judged_begins, kind_of_access}
 use Rattle.ada_sound.proofs.Calls.{home_low, relied_says}
 use Rattle.ada_sound.proofs.Callers.{Suspension, Stands, caller_of, callers_of, known_in}
-use Rattle.ada_sound.proofs.Fits.{Fit, IsPlace, IsReferred, IsRelied, IsSaid, IsWithin, MayName, NoOuterAlias, component_access, none_spared, outer_access, outer_hold, place_at, there_by}
+use Rattle.ada_sound.proofs.Fits.{Fit, IsPlace, IsReferred, IsRelied, IsSaid, IsOwnedOutside, IsWithin, MayName, NoOuterAlias, component_access, none_spared, outer_access, outer_hold, owned_deeper, place_at, there_by}
 use Rattle.ada_sound.proofs.Invariant.{AdjustsAside, Control, CoveredIn, IsAwaited, Known, RunsOn, Spares, Unaliased, Working, body_among, outer_of, outers, under_in}
 use Rattle.ada_sound.proofs.Judged.{known_judged}
 use Rattle.ada_sound.proofs.Operating.{IsCalm, WaitsFor, behind_operation}
@@ -303,9 +303,9 @@ module _ (program : Program) (number : ℕ) (b : BodyForm) (there : slice_get (p
         by_depth zero y of b' = at.unaliased y t of ends b'
         by_depth (suc d) y of b' = (at.spares t ends).0.0 d y of b'
 
-        by_reference : (q : Id) → IsReferred (outers judging).referenced q t → is_access known.program.types t ≡ true → ⊥
-        by_reference q (inl (same, of)) access = let parted = at.parted in let bare = frees_bare t may in cc (parted, of, bare)
-        by_reference q (inr outer) access = (at.spares t ends).0.1 q outer access
+        by_reference : (q : Id) → IsReferred (outers judging).referenced q t → is_access known.program.types t ≡ true → IsOwnedOutside (outers judging) q
+        by_reference q (inl (same, of)) access = let parted = at.parted in let bare = frees_bare t may in absurd (cc (parted, of, bare))
+        by_reference q (inr outer) access = owned_deeper (outer_of (caller_of program waiting gs)) (outers known).suspended q ((at.spares t ends).0.1 q outer access)
 
     spares : Spares judging (body_frees judging.program.types (effects_of judging.implicit judging.program) (main_body judging.program))
     spares t may = (subst (λ (types : List TypeForm). NoOuterAlias types (outers judging) t) (same_types a.procedure p ∙ sym (same_types (Some number) p)) (no_outer t may), may)

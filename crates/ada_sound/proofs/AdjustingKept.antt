@@ -49,7 +49,7 @@ abbrev pub StepsKeep : Known → List TypeDefinition → List BodyForm → Type 
 StepsKeep known types bodies =
     (t : State) → calls_or_copies t.control ≡ false → inside.crosses t.mode t.control ≡ false → typed.TypedIn known.program t
     → AllocatesBare known.program known.implicit known.touches t.control → AllPairs CollectTwoTypes (items_of t.masters)
-    → (may : ℕ → Bool) → FinalizesIn may known.program.types types bodies t.mode t.control t → NoneIsUnder may (outers known).under t.heap
+    → (may : ℕ → Bool) → FinalizesIn may known.program.types (outers known) types bodies t.mode t.control t → NoneIsUnder may (outers known).under t.heap
     → (t.mode ≡ Running → FreesAmong may t.control)
     → ((left : Mode) (k : Control) → t.mode ≡ Running → t.control ≡ Leaves left ∷ k
     → HeldIn t.heap t.masters × NamedBelow (outers known) t.heap t.masters × AreInOrder known.ahead known.program.types (innermost t.masters))

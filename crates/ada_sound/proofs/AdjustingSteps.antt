@@ -14,7 +14,7 @@ use Rattle.ada_meaning.specs.Event.{Quiet}
 use Rattle.ada_meaning.specs.Frame as frame
 use Rattle.ada_meaning.specs.Frame.{Frame, Leaves}
 use Rattle.ada_meaning.specs.Law.{items_of}
-use Rattle.ada_meaning.specs.Named.{Object, State, Next, next, object_at}
+use Rattle.ada_meaning.specs.Named.{Object, State, Next, all_alive, next, object_at}
 use Rattle.ada_meaning.specs.Run.{Event}
 use Rattle.ada_meaning.specs.State.{Activation, Master}
 use Rattle.ada_meaning.specs.Step.{halts, moves, tells, asks, picks, older, places, operands_of}
@@ -86,7 +86,8 @@ GoesAdjusting program s f n = StepsTo (InAdjusting program s f) s n
 -- What is known of the objects and the masters of a state: each bare object that is in its collection has the values of all its parts, collections are of two
 -- types each, what masters own fits the types, and what the innermost master owns goes in order where that is left.
 pub record IsOrderly (program : Program) (s : State) : Type 0 where
-  pub stand : AllStand (λ access. has_bare_objects (program_form program).types access) (program_form program).types s.heap
+  pub stand : (o : Id) (x : Object) → object_at s.heap o ≡ Some x → x.listed ≡ true → is_access (program_form program).types x.cell.access ≡ true
+      → has_bare_objects (program_form program).types x.cell.access ≡ true → all_alive x.cell.parts ≡ true
   pub two : AllPairs CollectTwoTypes (items_of s.masters)
   pub fit : ItemsFit (program_form program).types (items_of s.masters)
   pub ordered : AreInOrder (ahead_in (program_form program)) (program_form program).types (innermost s.masters)
@@ -152,22 +153,22 @@ module _
   bare_types access = has_bare_objects p.types access
 
   -- Each object that may be freed stands in the other one, too.
-  alive : AllStand bare_types known.program.types f.t.heap
-  alive o y found listed of bare =
+  alive : AllStand bare_types known.program.types (outers known) f.t.heap
+  alive o y found listed of bare inside =
       let x = unblanked f.w s.heap o y (subst (λ (heap : List Object). object_at heap o ≡ Some y) of_t.heap found) in
       let access : is_access p.types x.object.cell.access ≡ true = subst (λ (t : ℕ). is_access p.types t ≡ true) (sym x.alike.access) (subst (λ (all : List TypeForm). is_access all y.cell.access ≡ true) types_are of) in
       rw (sym x.alike.parts) (orderly.stand o x.object x.found (x.alike.listed ∙ listed) access (subst (λ (t : ℕ). bare_types t ≡ true) (sym x.alike.access) bare))
 
-  finalizes : FinalizesIn bare_types known.program.types tds bodies f.t.mode f.t.control f.t
+  finalizes : FinalizesIn bare_types known.program.types (outers known) tds bodies f.t.mode f.t.control f.t
   finalizes = by f.t.mode f.t.control f.frugal.upper f.frugal.frugally
     where
-      by_frame : (g : Frame Value) (k : Control) (mode : Mode) (ms : List Master) → Frugal (simple_allowance p.types) f.behind [] mode (g ∷ k) ms → FinalizesBy bare_types known.program.types tds bodies g (record f.t { mode = Running; control = k })
+      by_frame : (g : Frame Value) (k : Control) (mode : Mode) (ms : List Master) → Frugal (simple_allowance p.types) f.behind [] mode (g ∷ k) ms → FinalizesBy bare_types known.program.types (outers known) tds bodies g (record f.t { mode = Running; control = k })
       by_frame (frame.Does fs) k mode ms q = alive
       by_frame (frame.FreesIn access c) k mode ms q = alive
       by_frame (frame.Treats v treatment tasks) k mode ms q = absurd (treats_none (simple_allowance p.types) refl refl f.behind [] mode (frame.Treats v treatment tasks ∷ k) ms q v treatment tasks k refl)
       by_frame g k mode ms q = tt
 
-      by : (mode : Mode) (k : Control) (ms : List Master) → Frugal (simple_allowance p.types) f.behind [] mode k ms → FinalizesIn bare_types known.program.types tds bodies mode k f.t
+      by : (mode : Mode) (k : Control) (ms : List Master) → Frugal (simple_allowance p.types) f.behind [] mode k ms → FinalizesIn bare_types known.program.types (outers known) tds bodies mode k f.t
       by Running [] ms q = tt
       by Running (g ∷ k) ms q = by_frame g k Running ms q
       by (Raising e) k ms q = tt
@@ -220,7 +221,7 @@ module _
   frugal_on =
       frugal_steps known.program judged.owns tds bodies (simple_allowance p.types) (bare_by program) (records_bare_by program) (λ number b there told. absurd (cc told)) (λ objects. absurd (cc objects)) f.behind [] f.lower f.t f.frugal
       (λ actuals references k is. absurd (let first = firsts.0 in cc (rw is at first))) (λ runs. treats_none (simple_allowance p.types) refl refl f.behind [] f.t.mode f.t.control f.frugal.upper f.frugal.frugally) f.typed
-      bare_types (λ runs. freely) (λ treats_parts first. absurd (cc treats_parts)) (λ objects. absurd (cc objects)) (λ objects runs. absurd (cc objects))
+      bare_types (λ runs. freely) (λ treats_parts runs first. absurd (cc treats_parts)) (λ objects. absurd (cc objects)) (λ objects runs. absurd (cc objects))
 
   typed_on : Each (typed.TypedIn known.program) (next tds bodies f.t)
   typed_on = judged.stays f.t f.typed alone_there none_crosses (none_ends (simple_allowance p.types) refl refl f.behind [] f.t.mode f.t.control f.frugal.upper f.frugal.frugally)

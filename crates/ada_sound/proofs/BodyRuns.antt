@@ -19,7 +19,7 @@ use Rattle.ada_program.specs.WellFormed.{is_access}
 use Rattle.std.specs.List.{slice_get}
 use Rattle.ada_meaning.specs.Frame.{Elaborates}
 use Rattle.ada_owners.specs.Reliance.{Borrows}
-use Rattle.ada_sound.proofs.Fits.{Outer, Outsiders, NoOuterAlias, Reference, IsReferred, referred_either, outer_access, outer_hold}
+use Rattle.ada_sound.proofs.Fits.{Outer, Outsiders, IsOwnedOutside, NoOuterAlias, Reference, IsReferred, owned_deeper, referred_either, outer_access, outer_hold}
 use Rattle.ada_sound.proofs.Outcomes.{goes_map, to_here, block_goes, body_goes}
 use Rattle.ada_sound.proofs.Values.{read_same, read_other, same_or_not}
 use Rattle.ada_sound.proofs.Leavings.{all_among}
@@ -228,11 +228,11 @@ unkept_borrows keeping (in_out_path path ∷ rest) holds x b = unkept_borrows (o
 unkept_borrows keeping (in_out_access path ∷ rest) holds x b =
     unless_borrows (first_kept keeping) path.root holds x (unkept_borrows (others_kept keeping) rest (unless_kept (first_kept keeping) path.root holds) x b)
 
--- Neither has a caller that waits, nor those before it, and the call refers to no object of it.
-pub call_spares : (types : List TypeForm) (variables : List VariableForm) (effect : Option Effect) (actuals : List ActualForm) (places given : List Value) (referenced : List Reference) (holds : Holds) (outer : Outsiders) (t : ℕ) → call_frees effect t ≡ true → NoOuterAlias types outer t → (is_access types t ≡ true → (o : Id) → IsReferred referenced o t → ⊥) → NoOuterAlias types (record { given = given; suspended = record { variables = variables; places = places; holds = left_unkept [] actuals (left_by_call variables effect holds) } ∷ outer.suspended; referenced = referenced ++ outer.referenced; under = outer.under }) t
+-- Neither has a caller that waits, nor those before it, and an object of it to which the call refers is owned outside.
+pub call_spares : (types : List TypeForm) (variables : List VariableForm) (effect : Option Effect) (actuals : List ActualForm) (places given : List Value) (referenced : List Reference) (holds : Holds) (outer : Outsiders) (t : ℕ) → call_frees effect t ≡ true → NoOuterAlias types outer t → (is_access types t ≡ true → (o : Id) → IsReferred referenced o t → IsOwnedOutside outer o) → NoOuterAlias types (record { given = given; suspended = record { variables = variables; places = places; holds = left_unkept [] actuals (left_by_call variables effect holds) } ∷ outer.suspended; referenced = referenced ++ outer.referenced; under = outer.under }) t
 call_spares types variables effect actuals places given referenced holds outer t is none passed = (
   (λ d x of b. aliases effect is d x of b),
-  (λ o refers of. elim (referred_either referenced outer.referenced o t refers) [ inl here ↦ passed of o here | inr before ↦ none.1 o before of ]),
+  (λ o refers of. owned_deeper (waiting effect) outer.suspended o (elim (referred_either referenced outer.referenced o t refers) [ inl here ↦ passed of o here | inr before ↦ none.1 o before of ])),
 )
   where
     waiting : Option Effect → Outer

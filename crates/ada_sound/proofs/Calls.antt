@@ -28,7 +28,7 @@ use Rattle.ada_meaning.specs.Named.{Object, State, named, object_at}
 use Rattle.ada_owners.specs.Places.{is_there, variable, access_at}
 use Rattle.ada_owners.specs.Reliance.{Says, IsOf, Owns}
 use Rattle.ada_owners.specs.Keeping.{IsThere}
-use Rattle.ada_sound.proofs.Fits.{none_spared, Fit, Reference, IsReferred, referred_first, referred_either, IsPlace, ArePlain, plain_by, plain_object, IsSaid, IsRelied, is_object, place_at, weaker_fit, there_by}
+use Rattle.ada_sound.proofs.Fits.{none_spared, Fit, Reference, IsOwnedOutside, IsReferred, referred_first, referred_either, IsPlace, ArePlain, plain_by, plain_object, IsSaid, IsRelied, is_object, place_at, weaker_fit, there_by}
 use Rattle.ada_sound.proofs.Orderings.{AsGood, called_good}
 use Rattle.ada_sound.proofs.Items.{item_below, height_is}
 use Rattle.ada_sound.proofs.Stored.{Stored, Sane, stored_entered}
@@ -348,8 +348,8 @@ module _ (program : Program) (number : ℕ) (b : BodyForm) (given : List ActualF
           rw effect (rw (← sees) at may)
 
     module _ (passed : ArePassed s.heap a.places (reverse given) a.operands) where
-      -- No call refers to an object of an access type that the body may free.
-      pub passes_spared : (t : ℕ) → frees t ≡ true → is_access caller.program.types t ≡ true → (o : Id) → IsReferred referenced o t → ⊥
+      -- Each object of an access type that the body may free is owned outside, if the call refers to it.
+      pub passes_spared : (t : ℕ) → frees t ≡ true → is_access caller.program.types t ≡ true → (o : Id) → IsReferred referenced o t → IsOwnedOutside (outers caller) o
       passes_spared t may of o is =
           let suits = (and_parts (actuals_fit caller.program.types caller.program.variables (formal_kinds b) given) (modes_fit b.formals given) w.rest.5).0 in
           all_spared caller.program.types caller.program.variables frees s.heap a.places w.holds w.fit

@@ -36,7 +36,7 @@ use Rattle.ada_meaning.specs.Run.{Event, Choice, settled, grants, takes, Leads, 
 use Rattle.ada_quiet.specs.Idle.{makes_parts, copies_parts}
 use Rattle.ada_quiet.specs.InUse.{may_be_frugal, operations_are_in_use}
 use Rattle.ada_quiet.specs.Releases.{text_frees_inside}
-use Rattle.ada_sound.specs.Always.{IsChecked, LetsNothingOut, reaches_holder, spare_own_types, starts_spare, SparesHolders, SparesOwn, SparesStarts, Breaks, IsIllFormed, IsIllNested, FreesOthers, NotInUse, LetsSomeOut, UsesOwn, InSomeRun, is_seen, IsFineAtEnds, HaltsAfter, HaltsSomewhere}
+use Rattle.ada_sound.specs.Always.{IsChecked, LetsNothingOut, reaches_holder, spare_own_types, SparesHolders, SparesOwn, Breaks, IsIllFormed, IsIllNested, FreesOthers, NotInUse, LetsSomeOut, UsesOwn, InSomeRun, is_seen, IsFineAtEnds, HaltsAfter, HaltsSomewhere}
 
 -- Events, and the state that they lead to.
 abbrev pub Came : Type 0
@@ -168,12 +168,11 @@ none_there : (spots : List Spot) → is_none spots ≡ true → spots ≡ []
 none_there [] none = refl
 none_there (spot ∷ spots) none = absurd (cc none)
 
--- Whether what ends objects spares their own access types, and where a component of a record is freed those in whose objects such a component may lie; and
--- whether what initializes objects spares their own access types.
+-- Whether what ends objects spares their own access types, and where a component of a record is freed those in whose objects such a component may lie.
 abbrev pub spares_types : ProgramForm → Bool
 spares_types p =
     spare_own_types (implicit_of p) 0 p.types
-    && (is_none (text_frees_inside (reaches_holder (implicit_of p) p.types) p) && starts_spare (implicit_of p) 0 p.types)
+    && is_none (text_frees_inside (reaches_holder (implicit_of p) p.types) p)
 
 -- Whether no exception comes out where a record is finalized, if a Finalize may be called, nor where one is adjusted, if an Adjust may be.
 abbrev pub lets_none_out : ProgramForm → Bool
@@ -299,12 +298,7 @@ module _ (program : Program) (bodies : List BodyForm) (fs : StmtsForm) (hs : Han
   spares_holders_in : spares_types (form_with program bodies fs hs) ≡ true → SparesHolders program
   spares_holders_in e may made =
       subst (λ (p : ProgramForm). text_frees_inside (reaches_holder (implicit_of p) p.types) p ≡ []) (sym form_is)
-      (none_there _ (and_parts _ _ (and_parts _ _ e).1).0)
-
-  -- And whether the initializations of its objects spare their own access types.
-  spares_starts_in : spares_types (form_with program bodies fs hs) ≡ true → SparesStarts program
-  spares_starts_in e may made =
-      subst (λ (p : ProgramForm). starts_spare (implicit_of p) 0 p.types ≡ true) (sym form_is) (and_parts _ _ (and_parts _ _ e).1).1
+      (none_there _ (and_parts _ _ e).1)
 
   -- And whether no exception comes out of what may be called of its Finalize and Adjust.
   lets_none_in : lets_none_out (form_with program bodies fs hs) ≡ true → LetsNothingOut (program_form program)
@@ -317,10 +311,6 @@ module _ (program : Program) (bodies : List BodyForm) (fs : StmtsForm) (hs : Han
   -- Nothing is asked of these where no Finalize may touch storage.
   pub never_frugal : may_be_frugal (form_with program bodies fs hs) ≡ false → SparesHolders program
   never_frugal never may made = absurd (cc (never, subst (λ (p : ProgramForm). may_be_frugal p ≡ true) form_is may))
-
-  -- Nor where no Initialize may.
-  pub never_frugal_starts : may_be_frugal (form_with program bodies fs hs) ≡ false → SparesStarts program
-  never_frugal_starts never may made = absurd (cc (never, subst (λ (p : ProgramForm). may_be_frugal p ≡ true) form_is may))
 
   nested_in : is_nested (form_with program bodies fs hs) ≡ true → CollectionsNest (program_form program)
   nested_in e = subst CollectionsNest (sym form_is) (nested_is (form_with program bodies fs hs) e)
@@ -341,7 +331,6 @@ module _ (program : Program) (bodies : List BodyForm) (fs : StmtsForm) (hs : Han
         spares_own = spares_in (spares_is (form_with program bodies fs hs) fine);
         lets_nothing_out = lets_none_in (lets_none_is (form_with program bodies fs hs) fine);
         spares_holders = spares_holders_in (spares_is (form_with program bodies fs hs) fine);
-        spares_starts = spares_starts_in (spares_is (form_with program bodies fs hs) fine);
         obeys = (normal, raising, flow_in (goes normal raising) e);
       }
 
@@ -357,7 +346,6 @@ module _ (program : Program) (bodies : List BodyForm) (fs : StmtsForm) (hs : Han
         spares_own = spares_in (spares_is (form_with program bodies fs hs) fine);
         lets_nothing_out = lets_none_in (lets_none_is (form_with program bodies fs hs) fine);
         spares_holders = spares_holders_in (spares_is (form_with program bodies fs hs) fine);
-        spares_starts = spares_starts_in (spares_is (form_with program bodies fs hs) fine);
         spot = spot;
         faults_there = flow_in (faults spot rule) e;
       }
@@ -393,7 +381,6 @@ module _ (program : Program) (bodies : List BodyForm) (fs : StmtsForm) (hs : Han
         lets_some_out = λ (none : LetsNothingOut (program_form program)).
             none.finalizes (subst (λ (p : ProgramForm). makes_parts p ≡ true) (sym form_is) made) e record_type raised;
         spares_holders = spares_holders_in spares;
-        spares_starts = spares_starts_in spares;
         obeys = (normal, raising, flow_in (goes normal raising) h);
       }
 
@@ -481,7 +468,6 @@ module _ (program : Program) (fs : StmtsForm) (hs : HandlersForm) (is : stmt_for
     spares_own = spares_in program (body_forms program) fs hs refl is has spares;
     lets_nothing_out = lets_none_in program (body_forms program) fs hs refl is has none;
     spares_holders = spares_holders_in program (body_forms program) fs hs refl is has spares;
-    spares_starts = spares_starts_in program (body_forms program) fs hs refl is has spares;
     obeys = (normal, raising, flow_in program (body_forms program) fs hs refl is has (goes normal raising) e);
   }
 
@@ -495,7 +481,6 @@ module _ (program : Program) (fs : StmtsForm) (hs : HandlersForm) (is : stmt_for
     spares_own = spares_in program (body_forms program) fs hs refl is has (spares_is whole fine);
     lets_nothing_out = lets_none_in program (body_forms program) fs hs refl is has (lets_none_is whole fine);
     spares_holders = spares_holders_in program (body_forms program) fs hs refl is has (spares_is whole fine);
-    spares_starts = spares_starts_in program (body_forms program) fs hs refl is has (spares_is whole fine);
     obeys = (normal, raising, flow_in program (body_forms program) fs hs refl is has (goes normal raising) e);
   }
 
@@ -511,7 +496,6 @@ module _ (program : Program) (fs : StmtsForm) (hs : HandlersForm) (is : stmt_for
     spares_own = spares_in program (body_forms program) fs hs refl is has (spares_is whole fine);
     lets_nothing_out = lets_none_in program (body_forms program) fs hs refl is has (lets_none_is whole fine);
     spares_holders = spares_holders_in program (body_forms program) fs hs refl is has (spares_is whole fine);
-    spares_starts = spares_starts_in program (body_forms program) fs hs refl is has (spares_is whole fine);
     obeys = (normal, raising, flow_in program (body_forms program) fs hs refl is has (goes normal raising) e);
   }
 

@@ -12,6 +12,7 @@ use Rattle.ada_program.specs.declared.program.Program.{Program}
 use Rattle.ada_program.specs.declared.program.TypeDefinition.{TypeDefinition}
 use Rattle.ada_program.specs.ProgramForm.{BodyForm, ProgramForm, program_form, body_forms, seen_in}
 use Rattle.ada_program.specs.WellFormed.{is_access}
+use Rattle.ada_meaning.specs.declared.event.Cause.{Cause}
 use Rattle.ada_meaning.specs.declared.event.Cause.TheVariants.{Leaving}
 use Rattle.ada_meaning.specs.declared.event.Halt.{Halt}
 use Rattle.ada_meaning.specs.declared.state.Id.{Id}
@@ -194,6 +195,15 @@ module _ (program : Program) (s : State) (sound : Sound program s) (w : Within p
         let same : Names outermost.object ≡ Names w.object = sym ended ∙ (ap ended_in back_is ∙ here) in
         cc same
 
+    -- It is a finalization.
+    is_ended : (cause : Cause) × (outermost.treatment ≡ ends cause)
+    is_ended = by outermost.treatment refl outermost.awaited
+      where
+        by : (treatment : Treatment) → outermost.treatment ≡ treatment → WaitsFor p.types outermost.object outermost.of treatment outermost.tasks outermost.after outermost.behind
+            → (cause : Cause) × (outermost.treatment ≡ ends cause)
+        by (begins how done) same (part, is) = absurd (let never = sym is ∙ back_is ∙ w.is in cc never)
+        by (ends cause) same waits' = (cause, same)
+
     -- So the running body frees no object of its type.
     frees_none : may_free program s w.access ≡ false
     frees_none = false_from_ne_true (may_free program s w.access) (λ may. (
@@ -201,7 +211,7 @@ module _ (program : Program) (s : State) (sound : Sound program s) (w : Within p
         let waiting = subst (λ (all : List Suspension). AllWait (implicit_of p) (seen_in (running_procedure v) p) (callers_of program all)) f.within.are f.stands.standing.waiting in
         let behind_it = origin program (length f.within.inner) v outermost ∷ outermost.suspensions in
         let covered = covers_outermost program sound.spares_own v thrifty outermost.behind outermost.lower (running_procedure v) 0 outermost.number behind_it f.within.inner f.within.within waiting w.access so.1 in
-        frees_not program sound.spares_own v (length f.within.inner) outermost w.object w.member.0 member_found object_is
+        frees_not program sound.spares_own v (length f.within.inner) outermost is_ended.0 is_ended.1 w.object w.member.0 member_found object_is
         (subst (λ (t : ℕ). CoveredIn (implicit_of p) (seen_in (Some outermost.number) p) t) (sym w.member.2) covered)
         (subst (λ (t : ℕ). is_access p.types t ≡ true) (sym w.member.2) w.accessed)
         ))

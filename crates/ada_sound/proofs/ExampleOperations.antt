@@ -39,9 +39,9 @@ use Rattle.ada_meaning.specs.declared.event.Halt.TheVariants.{Finished, Escaped,
 use Rattle.ada_meaning.specs.declared.event.Why.TheVariants.{FollowsGone, FinalizesTwice}
 use Rattle.ada_meaning.specs.Named.{next}
 use Rattle.ada_meaning.specs.Run.{Choice, grants, takes}
-use Rattle.ada_sound.specs.Always.{IsChecked, FinishesAfter, NotInUse, LetsSomeOut, UsesOwn, SparesHolders, SparesOwn, SparesStarts, HaltsAfter}
+use Rattle.ada_sound.specs.Always.{IsChecked, FinishesAfter, NotInUse, LetsSomeOut, UsesOwn, SparesHolders, SparesOwn, HaltsAfter}
 use Rattle.ada_sound.specs.OperationExamples.{count_operations, count_bodies, operating_declarations, operating_stmts, operating_handlers, operating_events, node_operations, two_nodes, freeing_finalize, freed_events, following_finalize, node_and_cell, following_events, escaping_operations, escaping_finalize, escaping_declarations, escaping_stmts, escaping_events, WouldRaise, unfinalized_events, unadjusted_operations, escaping_adjust, unadjusted_events}
-use Rattle.ada_sound.proofs.Choices.{accepted_in, never_frugal, never_frugal_starts, does_in, not_in_use_in, lets_some_in, uses_own_in, spares_with, halts_after_in}
+use Rattle.ada_sound.proofs.Choices.{accepted_in, never_frugal, does_in, not_in_use_in, lets_some_in, uses_own_in, spares_with, halts_after_in}
 use Rattle.ada_sound.proofs.Example.{steps, vec, no_name, spot, link, with_number}
 use Rattle.ada_sound.proofs.ExampleOwners.{record_of, access_to, an_integer, an_access, path, whole, part as component}
 use Rattle.ada_sound.proofs.ExampleRecords.{object, of_object, record_at, of_object_type}
@@ -282,10 +282,6 @@ following_spares = spares_with following (following_finalize ∷ []) node_and_ce
 -- And no Finalize may touch storage there, as far as that is asked.
 pub following_spares_holders : SparesHolders following
 following_spares_holders = never_frugal following (following_finalize ∷ []) node_and_cell no_handlers following_bodies following_form refl refl
-
--- And no Initialize may.
-pub following_spares_starts : SparesStarts following
-following_spares_starts = never_frugal_starts following (following_finalize ∷ []) node_and_cell no_handlers following_bodies following_form refl refl
 
 -- Both objects are granted. The cell goes with its collection, and then the node is picked: its Finalize follows its component to the cell.
 pub follows_gone : HaltsAfter following_events (Erroneous FollowsGone) following

@@ -33,6 +33,7 @@ use Rattle.ada_finalized.proofs.Standing.{TreatsNothing, nothing_treated_at}
 use Rattle.ada_finalized.proofs.Twice.{never_twice}
 use Rattle.ada_finalized.specs.Law.{NoOperationRuns}
 use Rattle.ada_sound.proofs.Calm.{ends_operation, typed_calm}
+use Rattle.ada_sound.proofs.Fits.{Outsiders}
 use Rattle.ada_sound.proofs.Operating.{IsCalm}
 use Rattle.ada_sound.proofs.Standing.{AllStand, any_type, FinalizesBy, FinalizesIn}
 use Rattle.ada_sound.proofs.Starts.{IsReached}
@@ -87,8 +88,8 @@ module _ (program : Program) (well : IsWellFormed (program_form program)) (s : S
   none_runs none = typed_calm (seen_now (program_form program) s) s typing.inside none calm
 
   -- So each has a value, at a frame with which no treatment begins.
-  stand_before : (f : Frame Value) (k : List (Frame Value)) → s.control ≡ f ∷ k → TreatsNothing f → typed.is_operation f ≡ false → (forms : List TypeForm) → AllStand any_type forms s.heap
-  stand_before f k is plain none forms o x found listed of freely =
+  stand_before : (f : Frame Value) (k : List (Frame Value)) → s.control ≡ f ∷ k → TreatsNothing f → typed.is_operation f ≡ false → (forms : List TypeForm) (outer : Outsiders) → AllStand any_type forms outer s.heap
+  stand_before f k is plain none forms outer o x found listed of freely inside =
       let untreated = nothing_treated_at program reached.0 reached.1 s (none_runs (rw is none)) reached.2 f k is plain in
       parts_alive program well s reached o x found (stands program reached.0 reached.1 s reached.2 untreated o x found listed)
 
@@ -99,22 +100,22 @@ module _ (program : Program) (well : IsWellFormed (program_form program)) (s : S
       (subst (λ (j : List (Frame Value)). s ≡ record s { control = j }) is refl)
 
   -- What finalization leaves of a step, by the frame that is next.
-  by_frame : (f : Frame Value) (k : List (Frame Value)) → s.mode ≡ Running → s.control ≡ f ∷ k → (forms : List TypeForm) → FinalizesBy any_type forms types bodies f (record s { mode = Running; control = k })
+  by_frame : (f : Frame Value) (k : List (Frame Value)) → s.mode ≡ Running → s.control ≡ f ∷ k → (forms : List TypeForm) (outer : Outsiders) → FinalizesBy any_type forms outer types bodies f (record s { mode = Running; control = k })
   unfolding next
-  by_frame (frame.Does fs) k running is forms = stand_before (frame.Does fs) k is tt refl forms
-  by_frame (frame.FreesIn access c) k running is forms = stand_before (frame.FreesIn access c) k is tt refl forms
-  by_frame (frame.Treats v treatment tasks) k running is forms = λ twice.
+  by_frame (frame.Does fs) k running is forms outer = stand_before (frame.Does fs) k is tt refl forms outer
+  by_frame (frame.FreesIn access c) k running is forms outer = stand_before (frame.FreesIn access c) k is tt refl forms outer
+  by_frame (frame.Treats v treatment tasks) k running is forms outer = λ twice.
       never_twice program reached.0 reached.1 s (none_runs (rw is refl)) reached.2 v treatment tasks k is
       (subst (λ (t : State). Halts program t (Erroneous FinalizesTwice)) (sym (state_is Running (frame.Treats v treatment tasks ∷ k) running is)) twice)
-  by_frame f k running is forms = tt
+  by_frame f k running is forms outer = tt
 
-  by_mode : (mode : Mode) (k : List (Frame Value)) → s.mode ≡ mode → s.control ≡ k → (forms : List TypeForm) → FinalizesIn any_type forms types bodies mode k s
-  by_mode Running [] running is forms = tt
-  by_mode Running (f ∷ k) running is forms = by_frame f k running is forms
-  by_mode (Raising e) k running is forms = tt
-  by_mode Exiting k running is forms = tt
-  by_mode Returning k running is forms = tt
+  by_mode : (mode : Mode) (k : List (Frame Value)) → s.mode ≡ mode → s.control ≡ k → (forms : List TypeForm) (outer : Outsiders) → FinalizesIn any_type forms outer types bodies mode k s
+  by_mode Running [] running is forms outer = tt
+  by_mode Running (f ∷ k) running is forms outer = by_frame f k running is forms outer
+  by_mode (Raising e) k running is forms outer = tt
+  by_mode Exiting k running is forms outer = tt
+  by_mode Returning k running is forms outer = tt
 
   -- Each object that may be freed stands, and no treatment finalizes a value that does not exist.
-  pub finalizes_in : (forms : List TypeForm) → FinalizesIn any_type forms types bodies s.mode s.control s
-  finalizes_in forms = by_mode s.mode s.control refl refl forms
+  pub finalizes_in : (forms : List TypeForm) (outer : Outsiders) → FinalizesIn any_type forms outer types bodies s.mode s.control s
+  finalizes_in forms outer = by_mode s.mode s.control refl refl forms outer

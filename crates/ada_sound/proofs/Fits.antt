@@ -86,11 +86,43 @@ outer_holds (Some w) = w.holds
 abbrev pub outer_hold : Option Outer → ℕ → Hold
 outer_hold w x = hold_at (outer_holds w) x
 
--- No suspended activation has an alias of an access type, and no object of it is referred to; or of the one that there is, if there is one.
+-- What a variable holds.
+abbrev pub place_at : List Value → ℕ → Value
+place_at places x = slice_index_or places x Null
+
+-- What a variable of a suspended activation holds.
+abbrev pub outer_value : Option Outer → ℕ → Value
+outer_value None x = Null
+outer_value (Some w) x = place_at w.places x
+
+-- A variable of one of these activations owns an object.
+abbrev pub IsOwnedAmong : List Outer → Id → Type 0
+IsOwnedAmong suspended o =
+    (d : ℕ) × (x : ℕ) × Owns (outer_hold (slice_get suspended d) x) × (outer_value (slice_get suspended d) x ≡ Names o)
+
+-- A variable of a suspended activation owns it: so no variable of the running activation does, and no component.
+abbrev pub IsOwnedOutside : Outsiders → Id → Type 0
+IsOwnedOutside outer o = IsOwnedAmong outer.suspended o
+
+-- A value names such an object.
+abbrev pub NamesOwnedOutside : Outsiders → Value → Type 0
+NamesOwnedOutside outer Null = ⊥
+NamesOwnedOutside outer (Names o) = IsOwnedOutside outer o
+NamesOwnedOutside outer (Scalar v) = ⊥
+NamesOwnedOutside outer (Part o first) = ⊥
+
+-- One more activation is suspended: what the others own is owned among all of them; and so is what the new one owns.
+pub owned_deeper : (w : Outer) (suspended : List Outer) (o : Id) → IsOwnedAmong suspended o → IsOwnedAmong (w ∷ suspended) o
+owned_deeper w suspended o (d, x, owns, names) = (suc d, x, owns, names)
+
+pub owned_here : (w : Outer) (suspended : List Outer) (x : ℕ) (o : Id) → Owns (hold_at w.holds x) → place_at w.places x ≡ Names o → IsOwnedAmong (w ∷ suspended) o
+owned_here w suspended x o owns names = (zero, x, owns, names)
+
+-- No suspended activation has an alias of an access type, and each object of it that is referred to is owned outside; or of the one that there is, if there is one.
 abbrev pub NoOuterAlias : List TypeForm → Outsiders → (access : ℕ) → Type 0
 NoOuterAlias types outer t =
     ((d x : ℕ) → outer_access (slice_get outer.suspended d) x ≡ Some t → Borrows (outer_hold (slice_get outer.suspended d) x) → ⊥)
-    × ((o : Id) → IsReferred outer.referenced o t → is_access types t ≡ true → ⊥)
+    × ((o : Id) → IsReferred outer.referenced o t → is_access types t ≡ true → IsOwnedOutside outer o)
 
 abbrev pub NoOuterAliases : List TypeForm → Outsiders → (kind : Option ℕ) → Type 0
 NoOuterAliases types outer kind = (t : ℕ) → kind ≡ Some t → (is_access types t ≡ true) × NoOuterAlias types outer t
@@ -151,14 +183,6 @@ IsSaid given (hold.Kept r) v = v ≡ given
 IsSaid given (hold.Own r) v = Unit {0}
 IsSaid given (hold.Alias r) v = Unit {0}
 IsSaid given hold.Lost v = Unit {0}
-
-abbrev pub place_at : List Value → ℕ → Value
-place_at places x = slice_index_or places x Null
-
--- What a variable of a suspended activation holds.
-abbrev pub outer_value : Option Outer → ℕ → Value
-outer_value None x = Null
-outer_value (Some w) x = place_at w.places x
 
 suspended_value_at : (heap : List Object) (places : List Value) (ws : List Outer) (d x : ℕ) → value_at heap (bare places ∷ map bare_outer ws) (elsewhere d x) ≡ outer_value (slice_get ws d) x
 suspended_value_at heap places [] zero x = refl
@@ -551,14 +575,28 @@ other_referred outer heap o y none are k t is = go (same_id k o)
     go (inl e) = absurd (none t (rw e at is))
     go (inr ne) = ap access_in (at_other heap o k y ne) ∙ are k t is
 
--- One that is there, of an access type of which nothing is referred to, is not.
-pub unreferred_by : {types : List TypeForm} {variables : List VariableForm} {outer : Outsiders} {spared : Id → Bool} {heap : List Object} {places : List Value} {holds : Holds} (kind : Option ℕ) (o : Id) → NoOuterAliases types outer kind → IsOf (access_at heap) kind o → Fit types variables outer spared heap places holds → IsUnreferred outer o
-unreferred_by None o none of f t is = of
-unreferred_by {types = types} {outer = outer} (Some u) o none of f t is =
+-- What another place owns than a variable of a suspended activation is not owned outside: two places that own one object are one place.
+owned_inside : {types : List TypeForm} {variables : List VariableForm} {outer : Outsiders} {spared : Id → Bool} {heap : List Object} {places : List Value} {holds : Holds} (p : Place) (o : Id) → ((d x : ℕ) → elsewhere d x ≢ p) → Owns (hold_in outer spared holds p) → value_at heap (stacked places outer) p ≡ Names o → Fit types variables outer spared heap places holds → IsOwnedOutside outer o → ⊥
+owned_inside {outer = outer} {heap = heap} {places = places} p o inside own names f (d, x, owns, named) =
+    inside d x (f.owners.fit.apart (elsewhere d x) p o owns own (outer_value_at heap places outer d x ∙ named) names)
+
+-- So it is with what a variable of the running activation owns, and with what a component does.
+pub variable_inside : {types : List TypeForm} {variables : List VariableForm} {outer : Outsiders} {spared : Id → Bool} {heap : List Object} {places : List Value} {holds : Holds} (x : ℕ) (o : Id) → IsOwn (hold_at holds x) → place_at places x ≡ Names o → Fit types variables outer spared heap places holds → IsOwnedOutside outer o → ⊥
+variable_inside {holds = holds} x o own is f outside = owned_inside (variable x) o (λ d y e. cc e) (own_owns (hold_at holds x) own) is f outside
+
+pub component_inside : {types : List TypeForm} {variables : List VariableForm} {outer : Outsiders} {spared : Id → Bool} {heap : List Object} {places : List Value} {holds : Holds} (o : Id) (object : Object) (c : ℕ) (p : Id) → spared o ≡ false → object_at heap o ≡ Some object → is_there object.stage ≡ true → slice_get object.cell.values c ≡ Some (Names p) → Fit types variables outer spared heap places holds → IsOwnedOutside outer p → ⊥
+component_inside {outer = outer} {spared = spared} {heap = heap} {places = places} o object c p kept found listed at f outside =
+    let own : Owns (component_hold (spared o)) = rw kept tt in
+    owned_inside (component o c) p (λ d y e. cc e) own (component_value heap (stacked places outer) o object c (Names p) found listed at) f outside
+
+-- One that is there, of an access type of which each object that is referred to is owned outside, is not referred to where it is not owned outside.
+pub unreferred_by : {types : List TypeForm} {variables : List VariableForm} {outer : Outsiders} {spared : Id → Bool} {heap : List Object} {places : List Value} {holds : Holds} (kind : Option ℕ) (o : Id) → NoOuterAliases types outer kind → IsOf (access_at heap) kind o → (IsOwnedOutside outer o → ⊥) → Fit types variables outer spared heap places holds → IsUnreferred outer o
+unreferred_by None o none of inside f t is = of
+unreferred_by {types = types} {outer = outer} (Some u) o none of inside f t is =
     let at = f.referred o t is in
     let same : t ≡ u = cc (at, of) in
     let n = none u refl in
-    n.1.1 o (rw same at is) n.0
+    inside (n.1.1 o (rw same at is) n.0)
 
 -- A component gets what names nothing, or what is in hand.
 pub store_blank : {types : List TypeForm} {variables : List VariableForm} {outer : Outsiders} {spared : Id → Bool} {heap : List Object} {places : List Value} {holds : Holds} (o : Id) (object : Object) (c : ℕ) (v : Value) → object_at heap o ≡ Some object → ((p : Id) → v ≡ Names p → ⊥) → Fit types variables outer spared heap places holds → Fit types variables outer spared (store heap (Names o) c v) places holds
@@ -761,7 +799,7 @@ freed_unnamed {variables = variables} {outer = outer} {spared = spared} {heap = 
       unowned = λ q a b. unowned owns q (same_place q (variable x)) a b;
       unborrowed = λ q a b. unborrowed of q (same_place q (variable x)) a b;
     } in
-    (put_null x none_object (behind_fit (variable_access variables x) f), none, there_by heap (variable_access variables x) o of, unreferred_by (variable_access variables x) o spares of f)
+    (put_null x none_object (behind_fit (variable_access variables x) f), none, there_by heap (variable_access variables x) o of, unreferred_by (variable_access variables x) o spares of (variable_inside x o own is f) f)
   where
     behind : Holds
     behind = behind_end variables (variable_access variables x) holds
@@ -786,7 +824,7 @@ component_unnamed {variables = variables} {outer = outer} {heap = heap} {places 
     unowned = λ q a b. unowned q (same_place q (component o c)) a b;
     unborrowed = λ q a b. unborrowed q (same_place q (component o c)) a b;
   },
-  unreferred_by kind p spares of f,
+  unreferred_by kind p spares of (component_inside o object c p refl found listed at f) f,
 )
   where
     names : value_at heap (stacked places outer) (component o c) ≡ Names p

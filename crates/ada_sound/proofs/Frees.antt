@@ -19,7 +19,7 @@ use Rattle.ada_meaning.specs.Event.{Quiet}
 use Rattle.ada_meaning.specs.State.{Activation, home_of, pool_freed_to}
 use Rattle.ada_meaning.specs.Step.{all_tasks, free_next}
 use Rattle.ada_meaning.specs.Named.{State, named, parted}
-use Rattle.ada_sound.proofs.Fits.{NoOuterAlias, is_object, IsOwn, IsSaid, place_at, weaker_fit, null_fit, behind_fit, freed_unnamed, less_unnamed, same_unnamed, part_fit}
+use Rattle.ada_sound.proofs.Fits.{NoOuterAlias, is_object, IsOwn, IsSaid, place_at, weaker_fit, null_fit, behind_fit, freed_unnamed, variable_inside, less_unnamed, same_unnamed, part_fit}
 use Rattle.ada_sound.proofs.Objects.{set_here}
 use Rattle.ada_sound.proofs.Homes.{HaveHomes, same_one, stands_there, freed_home}
 use Rattle.ada_sound.proofs.Stored.{stored_part}
@@ -41,7 +41,7 @@ own_kept hold.Lost spot own = absurd own
 abbrev pub FreesTo : Known → (access : ℕ) → Control → Rooms → Holds → Type 0
 FreesTo known t k rooms holds = RunsOn known k rooms holds × EndsWellBy known t holds
 
-module _ (known : Known) (a : Activation Value) (rest : List (Activation Value)) (s : State) (types : List TypeDefinition) (access x : ℕ) (none : is_object known.program.variables x ≡ false) (spot : Spot) (fs : StmtsForm) (k : Control) (raised : Rooms → Holds → Type 0) (may : ℕ → Bool) (homes : HaveHomes may known.program.types (outers known).under s.heap s.masters) (freely : may access ≡ true) (own_type : ℕ) (by_own : own_type ≡ access) (of_type : variable_access known.program.variables x ≡ Some own_type) (is_type : is_access known.program.types own_type ≡ true) (spares : NoOuterAlias known.program.types (outers known) own_type × CoveredIn known.implicit known.program own_type) (w : Working known s.heap a.places s.masters (λ rooms holds. Goes (released known.program.variables x spot holds (hold_at holds x)) (To (FreesTo known own_type (Does fs ∷ k) rooms)) (raised rooms))) where
+module _ (known : Known) (a : Activation Value) (rest : List (Activation Value)) (s : State) (types : List TypeDefinition) (access x : ℕ) (none : is_object known.program.variables x ≡ false) (spot : Spot) (fs : StmtsForm) (k : Control) (raised : Rooms → Holds → Type 0) (may : ℕ → Bool) (homes : HaveHomes may known.program.types (outers known) s.heap s.masters) (freely : may access ≡ true) (own_type : ℕ) (by_own : own_type ≡ access) (of_type : variable_access known.program.variables x ≡ Some own_type) (is_type : is_access known.program.types own_type ≡ true) (spares : NoOuterAlias known.program.types (outers known) own_type × CoveredIn known.implicit known.program own_type) (w : Working known s.heap a.places s.masters (λ rooms holds. Goes (released known.program.variables x spot holds (hold_at holds x)) (To (FreesTo known own_type (Does fs ∷ k) rooms)) (raised rooms))) where
   -- X is null: nothing happens.
   free_null : place_at a.places x ≡ Null → To (FreesTo known own_type (Does fs ∷ k) w.rooms) (freed known.program.variables x w.holds) → Stepped known s.heap Quiet (running (Does fs ∷ k) a rest s)
   free_null is more = runs_on known (Does fs ∷ k) a rest s (record { rooms = w.rooms; holds = more.0; stored = w.stored; roomed = w.roomed; fit = weaker_fit more.0 more.1 (null_fit x none is (behind_fit (variable_access known.program.variables x) w.fit)); rest = more.2.0 }) Quiet tt
@@ -82,7 +82,7 @@ module _ (known : Known) (a : Activation Value) (rest : List (Activation Value))
           },
         );
       } in
-      let stands = stands_there o there.0 homes w.stored found there.2 (rw (← one) is_type) (rw (← one, by_own) freely) in
+      let stands = stands_there o there.0 homes w.stored found there.2 (rw (← one) is_type) (rw (← one, by_own) freely) (variable_inside x o own is w.fit) in
       rw (found, stands.0, stands.1) (rw (same_one (Some (pool_freed_to (home_of access s.masters))) there.0.cell.home.pool home) (rw found (record {
         ready = (
           tt,

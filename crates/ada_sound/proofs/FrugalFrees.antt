@@ -49,6 +49,7 @@ use Rattle.ada_sound.proofs.Allowance.{Allowance, may_create, may_treat, are_thr
 use Rattle.ada_sound.proofs.Assigned.{access_from, this_is}
 use Rattle.ada_sound.proofs.Calm.{ends_operation, operation_ends_there}
 use Rattle.ada_sound.proofs.Fits.{place_at}
+use Rattle.ada_sound.proofs.FreedInside.{IsFreedNext}
 use Rattle.ada_sound.proofs.FrugalControl.{Frugal, FrugalLeads}
 use Rattle.ada_sound.proofs.Invariant.{Control}
 use Rattle.ada_sound.proofs.OperationStarts.{apart}
@@ -264,10 +265,10 @@ module _ (p : ProgramForm) (whole : OwnBody p) where
       let nowhere : typed.Goes p (cells_of s.heap) Running s.control = rw same at goes in
       absurd nowhere
 
--- No object of these access types that is in its collection has an operation that runs behind this (7.6.1).
-abbrev pub ListedAlone : (may : ℕ → Bool) → List Object → Control → Type 0
-ListedAlone may heap k =
-    (o : Id) (x : Object) → object_at heap o ≡ Some x → x.listed ≡ true → may x.cell.access ≡ true → NoOperationRunsOn (Names o) k
+-- None of these objects that is of one of these access types, and in its collection, has an operation that runs behind this (7.6.1).
+abbrev pub ListedAlone : (may : ℕ → Bool) → (Id → Type 0) → List Object → Control → Type 0
+ListedAlone may Freed heap k =
+    (o : Id) (x : Object) → Freed o → object_at heap o ≡ Some x → x.listed ≡ true → may x.cell.access ≡ true → NoOperationRunsOn (Names o) k
 
 -- Where the innermost master is left next, no operation of an object in it runs behind this (7.6.1).
 abbrev pub LeftAlone : List Object → List Master → Control → Type 0
@@ -279,6 +280,27 @@ LeftAlone heap ms (f ∷ k) = Unit {0}
 -- None runs of an object that does not exist (7.6).
 abbrev pub Unborn : List Object → Control → Type 0
 Unborn heap k = (o : Id) → (NamesExisting heap (Names o) → ⊥) → NoOperationRunsOn (Names o) k
+
+-- What a component names that is freed next does so in an object that is found.
+component_next :
+    (heap : List Object) (v : Value) (c : ℕ) (cell : Cell Value) (w : Value) (o : Id) → look heap v ≡ finds cell → slice_get cell.values c ≡ Some w → w ≡ Names o
+    → (p : Id) × (holder : Object) × (v ≡ Names p) × (object_at heap p ≡ Some holder) × (slice_get holder.cell.values c ≡ Some (Names o))
+component_next heap Null c cell w o found there names = absurd (cc found)
+component_next heap (Scalar n) c cell w o found there names = absurd (cc found)
+component_next heap (Part p place) c cell w o found there names = absurd (cc found)
+component_next heap (Names p) c cell w o found there names = by (object_at heap p) refl found
+  where
+    cell_is : (x : Object) (stage : Stage) → existing x stage ≡ finds cell → x.cell ≡ cell
+    cell_is x Building found' = cc found'
+    cell_is x Existing found' = cc found'
+    cell_is x Gone found' = absurd (cc found')
+
+    by : (x : Option Object) → object_at heap p ≡ x → seen x ≡ finds cell
+        → (q : Id) × (holder : Object) × (Names p ≡ Names q) × (object_at heap q ≡ Some holder) × (slice_get holder.cell.values c ≡ Some (Names o))
+    by None at found' = absurd (cc found')
+    by (Some x) at found' =
+        let same = cell_is x x.stage found' in
+        (p, x, refl, at, rw same (there ∙ ap Some names))
 
 module _ (frugal : Allowance) (tds : List TypeDefinition) where
   -- What is found of an object may be freed: nothing is to be done for it, or bodies may free what has controlled parts, and none of its operations runs behind
@@ -306,21 +328,22 @@ module _ (frugal : Allowance) (tds : List TypeDefinition) where
   NextIsFreely [] heap places operands = Unit {0}
   NextIsFreely (f ∷ k) heap places operands = FrameIsFreely f k heap places operands
 
-  module _ (bare : AccessIsBare frugal.types tds) (may : ℕ → Bool) (heap : List Object) (k : Control) (alone : frugal.treats_parts ≡ true → ListedAlone may heap k) where
+  module _ (bare : AccessIsBare frugal.types tds) (may : ℕ → Bool) (Freed : Id → Type 0) (heap : List Object) (k : Control) (alone : frugal.treats_parts ≡ true → ListedAlone may Freed heap k) where
     bare_freely : (v : Value) (access : ℕ) (found : Found (Cell Value)) → has_bare_objects frugal.types access ≡ true → IsOf access found → IsFreely k v found
     bare_freely v access on_null has of = tt
     bare_freely v access on_gone has of = tt
     bare_freely v access on_other has of = tt
     bare_freely v access (finds cell) has of = inl (bare cell.access WholeFirst (rw of has))
 
-    alone_freely : (v : Value) (access : ℕ) → frugal.treats_parts ≡ true → may access ≡ true → IsOf access (standing heap v) → IsFreely k v (standing heap v)
-    alone_freely Null access treats_parts freed of = tt
-    alone_freely (Scalar n) access treats_parts freed of = tt
-    alone_freely (Part o place) access treats_parts freed of = tt
-    alone_freely (Names o) access treats_parts freed of = by (object_at heap o) refl of
+    alone_freely : (v : Value) (access : ℕ) → ((o : Id) → v ≡ Names o → Freed o) → frugal.treats_parts ≡ true → may access ≡ true → IsOf access (standing heap v)
+        → IsFreely k v (standing heap v)
+    alone_freely Null access next treats_parts freed of = tt
+    alone_freely (Scalar n) access next treats_parts freed of = tt
+    alone_freely (Part o place) access next treats_parts freed of = tt
+    alone_freely (Names o) access next treats_parts freed of = by (object_at heap o) refl of
       where
         stands : (x : Object) → object_at heap o ≡ Some x → (listed alive : Bool) → x.listed ≡ listed → IsOf access (if listed && alive then finds x.cell else on_gone) → IsFreely k (Names o) (if listed && alive then finds x.cell else on_gone)
-        stands x at true true is of' = inr (treats_parts, alone treats_parts o x at is (rw of' freed))
+        stands x at true true is of' = inr (treats_parts, alone treats_parts o x (next o refl) at is (rw of' freed))
         stands x at true false is of' = tt
         stands x at false alive is of' = tt
 
@@ -328,23 +351,27 @@ module _ (frugal : Allowance) (tds : List TypeDefinition) where
         by None at of' = tt
         by (Some x) at of' = stands x at x.listed (all_alive x.cell.parts) refl of'
 
-    is_freely : (v : Value) (access : ℕ) → may_treat frugal access ≡ true → may access ≡ true → IsOf access (standing heap v) → IsFreely k v (standing heap v)
-    is_freely v access may_so freed of = by frugal.treats_parts refl may_so
+    is_freely : (v : Value) (access : ℕ) → ((o : Id) → v ≡ Names o → Freed o) → may_treat frugal access ≡ true → may access ≡ true → IsOf access (standing heap v)
+        → IsFreely k v (standing heap v)
+    is_freely v access next may_so freed of = by frugal.treats_parts refl may_so
       where
         by : (treats_parts : Bool) → frugal.treats_parts ≡ treats_parts → (treats_parts || has_bare_objects frugal.types access) ≡ true → IsFreely k v (standing heap v)
-        by true is either = alone_freely v access is freed of
+        by true is either = alone_freely v access next is freed of
         by false is has = bare_freely v access (standing heap v) has of
 
   -- What is freed next in a frugal body may be so, where it is among these access types.
   pub next_freely :
       AccessIsBare frugal.types tds → (may : ℕ → Bool) (behind : Control) (among : List Value) (heap : List Object) (values results : List Value) (k : Control) (ms : List Master)
-      → (frugal.treats_parts ≡ true → ListedAlone may heap k)
+      → (frugal.treats_parts ≡ true → ListedAlone may (IsFreedNext heap values results k) heap k)
       → FrugalLeads frugal behind among k ms → FreesAmong may k → NextFreesOwn k heap values results → NextIsFreely k heap values results
   next_freely bare may behind among heap values results [] ms alone q freely own = tt
   next_freely bare may behind among heap values results (Does (a_stmt (frees access path) fs) ∷ k) ms alone q freely own =
-      λ stands. is_freely bare may heap (Does fs ∷ k) alone (place_at values path.root) access (apart (may_treat frugal access) (are_thrifty frugal fs) q.0).0 freely (own stands)
+      λ stands. is_freely bare may (IsFreedNext heap values results (Does (a_stmt (frees access path) fs) ∷ k)) heap (Does fs ∷ k) alone (place_at values path.root) access
+      (λ o names. (stands, names)) (apart (may_treat frugal access) (are_thrifty frugal fs) q.0).0 freely (own stands)
   next_freely bare may behind among heap values results (FreesIn access c ∷ k) ms alone q freely own =
-      λ cell w found there. is_freely bare may heap k alone w access q.0 freely (own cell w found there)
+      λ cell w found there.
+      is_freely bare may (IsFreedNext heap values results (FreesIn access c ∷ k)) heap k alone w access
+      (λ o names. component_next heap (first_or Null results) c cell w o found there names) q.0 freely (own cell w found there)
   next_freely bare may behind among heap values results (f ∷ k) ms alone q freely own = tt
 
 -- Where bodies treat no objects with controlled parts, what is freed next has none.

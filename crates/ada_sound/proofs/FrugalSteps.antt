@@ -44,6 +44,7 @@ use Rattle.ada_sound.proofs.OperationStarts.{apart}
 use Rattle.ada_sound.proofs.FrugalControl.{FrugalLeads, FrugalLeaves, MayLeave, Frugal, is_return_first, none_treated, none_left, treating_leads, treating_leaves, Frugally, GoesFrugally, BeginsThere, FrugalBegins, beginning_frugal, begins_first, leads_first, none_beginning}
 use Rattle.ada_sound.proofs.Standing.{FreesAmong}
 use Rattle.ada_sound.proofs.Steps.{crosses}
+use Rattle.ada_sound.proofs.FreedInside.{IsFreedNext}
 use Rattle.ada_sound.proofs.FrugalFrees.{AccessIsBare, bare_by, RecordIsBare, records_bare_by, NextFreesOwn, next_own, ListedAlone, FrameIsFreely, NextIsFreely, next_freely, LeftAlone, Unborn, is_newly}
 use Rattle.ada_sound.proofs.FrugalFrames as frames
 use Rattle.ada_sound.proofs.FrugalFrames.{EndsCreated, may_leave}
@@ -276,7 +277,7 @@ EndsInner frugal behind among k ms = (actuals : List ActualForm) (references : L
 
 -- While a frugal body runs, or one that it calls, and its own end is not next, whatever comes next is in such a body, too, where no object is treated next.
 -- Each Free of what runs is by the instance for the access type of what it frees (13.11.2), among some types; and where bodies may free objects with controlled
--- parts, no object of these types that is in its collection has an operation that runs, unless one begins first. Where they may create such objects, they may
+-- parts, no object of these types that is freed next and is in its collection has an operation that runs, unless one begins first. Where they may create such objects, they may
 -- free some, no operation runs of an object that does not exist, and none of one in a master that is left next.
 pub frugal_steps :
     (p : ProgramForm) → OwnBody p → (tds : List TypeDefinition) (bodies : List BodyForm) (frugal : Allowance) → AccessIsBare frugal.types tds → RecordIsBare frugal.types tds
@@ -284,7 +285,8 @@ pub frugal_steps :
     → (behind : Control) (among : List Value) (lower : List Master) (s : State) (f : Frugally frugal lower behind among s)
     → EndsInner frugal behind among s.control f.upper → (s.mode ≡ Running → TreatsNothing s.control) → typed.TypedIn p s
     → (may : ℕ → Bool) → (s.mode ≡ Running → FreesAmong may s.control)
-    → (frugal.treats_parts ≡ true → begins_first s.control ≡ false → ListedAlone may s.heap s.control)
+    → (frugal.treats_parts ≡ true → s.mode ≡ Running → begins_first s.control ≡ false
+    → ListedAlone may (IsFreedNext s.heap (places_of s.activations) (operands_of s.activations) s.control) s.heap s.control)
     → (frugal.objects ≡ true → Unborn s.heap s.control)
     → (frugal.objects ≡ true → s.mode ≡ Running → LeftAlone s.heap s.masters s.control)
     → GoesFrugally frugal lower behind among (next tds bodies s)
@@ -292,14 +294,14 @@ unfolding next
 frugal_steps p whole tds bodies frugal bare records_bare finds_frugal ends_created behind among lower s f inner none typing may frees alone unborn left =
     subst (λ (t : State). GoesFrugally frugal lower behind among (mode_next named tds bodies s.mode t)) state_is
     (mode_on frugal lower behind among tds bodies bare records_bare finds_frugal ends_created s s.mode s.control f.upper s.activations inner none
-    (λ runs. by f.frugally (frees runs) (next_own p whole s typing runs)) unborn (λ created runs. subst (λ (ms : List Master). LeftAlone s.heap ms s.control) f.masters (left created runs)) f.frugally)
+    (λ runs. by runs f.frugally (frees runs) (next_own p whole s typing runs)) unborn (λ created runs. subst (λ (ms : List Master). LeftAlone s.heap ms s.control) f.masters (left created runs)) f.frugally)
   where
-    by : Frugal frugal behind among s.mode s.control f.upper → FreesAmong may s.control → NextFreesOwn s.control s.heap (places_of s.activations) (operands_of s.activations)
+    by : s.mode ≡ Running → Frugal frugal behind among s.mode s.control f.upper → FreesAmong may s.control → NextFreesOwn s.control s.heap (places_of s.activations) (operands_of s.activations)
         → NextIsFreely frugal tds s.control s.heap (places_of s.activations) (operands_of s.activations)
-    by (inl q) freely own =
+    by runs (inl q) freely own =
         next_freely frugal tds bare may behind among s.heap (places_of s.activations) (operands_of s.activations) s.control f.upper
-        (λ treats_parts. alone treats_parts (leads_first frugal behind among s.control f.upper q)) q freely own
-    by (inr (inl (may', leaving))) freely own = leaving_freely s.control f.upper leaving
+        (λ treats_parts. alone treats_parts runs (leads_first frugal behind among s.control f.upper q)) q freely own
+    by runs (inr (inl (may', leaving))) freely own = leaving_freely s.control f.upper leaving
       where
         leaving_freely : (k : Control) (ms : List Master) → FrugalLeaves frugal behind among k ms → NextIsFreely frugal tds k s.heap (places_of s.activations) (operands_of s.activations)
         leaving_freely [] ms leaves = tt
@@ -309,7 +311,7 @@ frugal_steps p whole tds bodies frugal bare records_bare finds_frugal ends_creat
         leaving_freely (Treats v treatment tasks ∷ k) ms leaves = tt
         leaving_freely (Confines ∷ k) ms leaves = tt
         leaving_freely (g ∷ k) ms leaves = absurd leaves
-    by (inr (inr (may', beginning))) freely own = beginning_freely s.control f.upper beginning
+    by runs (inr (inr (may', beginning))) freely own = beginning_freely s.control f.upper beginning
       where
         beginning_freely : (k : Control) (ms : List Master) → FrugalBegins frugal behind among k ms → NextIsFreely frugal tds k s.heap (places_of s.activations) (operands_of s.activations)
         beginning_freely [] ms q = tt
@@ -327,7 +329,9 @@ pub frugal_goes :
     → (lower : List Master) (behind : Control) (among : List Value) (s : State) (f : Frugally (allowance_of (program_form program)) lower behind among s)
     → EndsInner (allowance_of (program_form program)) behind among s.control f.upper → (s.mode ≡ Running → TreatsNothing s.control)
     → typed.TypedIn (seen_in (running_procedure s) (program_form program)) s
-    → (may : ℕ → Bool) → (s.mode ≡ Running → FreesAmong may s.control) → (begins_first s.control ≡ false → ListedAlone may s.heap s.control)
+    → (may : ℕ → Bool) → (s.mode ≡ Running → FreesAmong may s.control)
+    → (s.mode ≡ Running → begins_first s.control ≡ false
+    → ListedAlone may (IsFreedNext s.heap (places_of s.activations) (operands_of s.activations) s.control) s.heap s.control)
     → Unborn s.heap s.control → (s.mode ≡ Running → LeftAlone s.heap s.masters s.control)
     → GoesFrugally (allowance_of (program_form program)) lower behind among (next program.types.items (body_forms program) s)
 frugal_goes program whole lower behind among s f inner none typing may frees alone unborn left =

@@ -16,7 +16,6 @@ grounds program s sound = record {
   frees_own = sound.frees_own;
   spares_own = sound.spares_own;
   lets_nothing_out = sound.lets_nothing_out;
-  spares_starts = sound.spares_starts;
   obeys = sound.obeys;
   idle = sound.idle;
   copies = sound.copies;

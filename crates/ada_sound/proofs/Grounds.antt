@@ -35,11 +35,12 @@ use Rattle.ada_scopes.proofs.Runs.{Scoped}
 use Rattle.ada_typed.proofs.Control as typed
 use Rattle.ada_typed.proofs.Kept.{behind_call}
 use Rattle.ada_sound.specs.Agreement.{running_procedure}
-use Rattle.ada_sound.specs.Always.{LetsNothingOut, SparesOwn, SparesStarts, reaches_holder}
+use Rattle.ada_sound.specs.Always.{LetsNothingOut, SparesOwn, reaches_holder}
 use Rattle.ada_sound.proofs.Callers.{Suspension, known_in, Stands, callers_of}
 use Rattle.ada_sound.proofs.CallsApart.{CallApart}
 use Rattle.ada_sound.proofs.FreesInside.{FreesNoneInside}
 use Rattle.ada_sound.proofs.FrugalFrees.{Unborn}
+use Rattle.ada_sound.proofs.Fits.{Outsiders}
 use Rattle.ada_sound.proofs.Invariant.{Control, Ready, under_in}
 use Rattle.ada_sound.proofs.Operating.{IsCalm}
 use Rattle.ada_sound.proofs.Standing.{FinalizesIn, any_type}
@@ -75,7 +76,6 @@ pub record Grounds (program : Program) (s : State) : Type 0 where
   pub frees_own : FreesItsOwn (program_form program)
   pub spares_own : SparesOwn program
   pub lets_nothing_out : LetsNothingOut (program_form program)
-  pub spares_starts : SparesStarts program
   pub obeys : Obeys program
   -- what is left to do, and values
   pub idle : makes_parts (program_form program) ≡ false → IsIdle (program_form program).types s
@@ -86,7 +86,7 @@ pub record Grounds (program : Program) (s : State) : Type 0 where
   pub typed : typed.Typed (program_form program) s
   pub nested : Scoped (program_form program) s
   -- where no operation runs, each object that may be freed stands, and no treatment finalizes a value that does not exist
-  pub finalizes : IsCalm (behind_call s.control) → (forms : List TypeForm) → FinalizesIn any_type forms program.types.items (body_forms program) s.mode s.control s
+  pub finalizes : IsCalm (behind_call s.control) → (forms : List TypeForm) (outer : Outsiders) → FinalizesIn any_type forms outer program.types.items (body_forms program) s.mode s.control s
   -- no operation runs of an object that does not exist; and none runs of an object that is in its collection, where nothing of it begins; and it stands, if the running body may free it, and is one of an operation,
   -- or is called by one
   pub unborn : Unborn s.heap s.control

@@ -13,6 +13,7 @@ use Rattle.ada_meaning.specs.Step.{same_pool}
 use Rattle.ada_meaning.specs.Named.{all_alive, Object, object_at}
 use Rattle.ada_meaning.specs.Law.{Differ, items_of}
 use Rattle.ada_scopes.specs.Scopes.{type_collected, CollectTwoTypes}
+use Rattle.ada_sound.proofs.Fits.{Outsiders, IsOwnedOutside}
 use Rattle.ada_sound.proofs.Items.{Houses, HasItem}
 use Rattle.ada_sound.proofs.Standing.{AllStand}
 use Rattle.ada_sound.proofs.Stored.{IsUnder, Stored, exists_out}
@@ -85,26 +86,26 @@ abbrev pub NoneIsUnder : (may : ℕ → Bool) → (under : List Id) → List Obj
 NoneIsUnder may under heap = (o : Id) (x : Object) → IsUnder under o → object_at heap o ≡ Some x → may x.cell.access ≡ false
 
 -- Objects of access types are from pools, and no access type has two open collections; and those of the types of which objects may be freed next, which are in
--- their collections, have the values of all their parts. None of these is under way.
-pub record HaveHomes (may : ℕ → Bool) (types : List TypeForm) (under : List Id) (heap : List Object) (masters : List Master) : Type 0 where
+-- their collections and not owned outside, have the values of all their parts. None of these types is that of an object under way.
+pub record HaveHomes (may : ℕ → Bool) (types : List TypeForm) (outer : Outsiders) (heap : List Object) (masters : List Master) : Type 0 where
   pub pooled : Pooled types heap
   pub lone : AllPairs CollectTwoTypes (items_of masters)
-  pub stand : AllStand may types heap
-  pub aside : NoneIsUnder may under heap
+  pub stand : AllStand may types outer heap
+  pub aside : NoneIsUnder may outer.under heap
 
--- So one of these that is there is in its collection, and has the values of all its parts.
-pub stands_there : {may : ℕ → Bool} {types : List TypeForm} {under : List Id} {heap : List Object} {masters : List Master} (o : Id) (x : Object) → HaveHomes may types under heap masters → Stored under heap masters → object_at heap o ≡ Some x → is_there x.stage ≡ true → is_access types x.cell.access ≡ true → may x.cell.access ≡ true → (x.listed ≡ true) × (all_alive x.cell.parts ≡ true)
-stands_there {under = under} o x homes stored found there is freely =
+-- So one of these that is there and not owned outside is in its collection, and has the values of all its parts.
+pub stands_there : {may : ℕ → Bool} {types : List TypeForm} {outer : Outsiders} {heap : List Object} {masters : List Master} (o : Id) (x : Object) → HaveHomes may types outer heap masters → Stored outer.under heap masters → object_at heap o ≡ Some x → is_there x.stage ≡ true → is_access types x.cell.access ≡ true → may x.cell.access ≡ true → (IsOwnedOutside outer o → ⊥) → (x.listed ≡ true) × (all_alive x.cell.parts ≡ true)
+stands_there {outer = outer} o x homes stored found there is freely inside =
     let exists = (stored.sane o x found).there_exists there in
     let listed = by ((stored.sane o x found).out_listed (exists_out o x found exists stored)) in
-    (listed, homes.stand o x found listed is freely)
+    (listed, homes.stand o x found listed is freely inside)
   where
-    by : (x.listed ≡ true) ⊎ IsUnder under o → x.listed ≡ true
+    by : (x.listed ≡ true) ⊎ IsUnder outer.under o → x.listed ≡ true
     by (inl listed) = listed
     by (inr one) = let other = homes.aside o x one found in absurd (cc (freely, other))
 
 -- What is freed by the instance for its own access type goes back to its own pool.
-pub freed_home : {may : ℕ → Bool} {under : List Id} {types : List TypeForm} {heap : List Object} {masters : List Master} (access : ℕ) (o : Id) (x : Object) → HaveHomes may types under heap masters → Stored under heap masters → object_at heap o ≡ Some x → x.stage ≡ Existing → is_access types x.cell.access ≡ true → x.cell.access ≡ access → Some (pool_freed_to (home_of access masters)) ≡ x.cell.home.pool
+pub freed_home : {may : ℕ → Bool} {outer : Outsiders} {types : List TypeForm} {heap : List Object} {masters : List Master} (access : ℕ) (o : Id) (x : Object) → HaveHomes may types outer heap masters → Stored outer.under heap masters → object_at heap o ≡ Some x → x.stage ≡ Existing → is_access types x.cell.access ≡ true → x.cell.access ≡ access → Some (pool_freed_to (home_of access masters)) ≡ x.cell.home.pool
 freed_home {masters = masters} access o x homes stored found exists is own =
     let from = homes.pooled o x found is in
     let housed : HasItem x.cell.home.item access (Some from.0) (items_of masters) = rw (own, from.1) at ((stored.sane o x found).housed (exists_out o x found exists stored)) in

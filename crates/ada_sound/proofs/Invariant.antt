@@ -14,7 +14,7 @@ use Rattle.ada_program.specs.ProgramForm.{TypeForm, VariableForm, BodyForm, Prog
 use Rattle.ada_program.specs.declared.program.VariableKind.{VariableKind}
 use Rattle.ada_program.specs.declared.program.VariableKind.TheVariants as variable
 use Rattle.ada_program.specs.declared.program.TypeNo.{TypeNo}
-use Rattle.ada_program.specs.WellFormed.{finalization_of, is_access, access_of, kind_among, path_kind, selectors_kind, variable_kind, record_components, reached_components, items_fit, is_record_object, object_named, profile_of, suits_profile}
+use Rattle.ada_program.specs.WellFormed.{finalization_of, is_access, access_of, kind_among, path_kind, selected_kind, selectors_kind, variable_kind, record_components, reached_components, items_fit, is_record_object, object_named, profile_of, suits_profile}
 use Rattle.ada_program.specs.Handling.{is_same, handler_of}
 use Rattle.ada_effects.specs.Effects.{expression_raises, links_raise, items_raise, path_raises, record_path_raises, condition_raises, unary_raises, binary_raises, right_raises, right_starts, declaration_raises, stmts_raise, branches_raise, handlers_raise, Effect, Implicit, call_raises, body_raises, stmts_free, branches_free, handlers_free, body_frees, call_frees, effects_of, endings_free, declaration_frees, assignment_frees}
 use Rattle.ada_flow.specs.declared.rule.Hold.TheVariants as hold
@@ -50,7 +50,7 @@ use Rattle.ada_owners.specs.Keeping.{IsThere}
 use Rattle.ada_owners.specs.Places.{access_at, is_there, component_in}
 use Rattle.ada_owners.proofs.Ends.{IsUnnamed}
 use Rattle.ada_owners.specs.Walks.{walk}
-use Rattle.ada_sound.proofs.Fits.{Outer, Reference, IsReferred, IsPlace, Outsiders, NoOuterAlias, IsSaid, place_at, Fit, IsRelied, IsUnreferred, MayFollow, component_access, is_object, hold_in, stacked, none_spared, sparing, outer_hold, outer_value}
+use Rattle.ada_sound.proofs.Fits.{Outer, Reference, IsReferred, IsPlace, Outsiders, NamesOwnedOutside, NoOuterAlias, IsSaid, place_at, Fit, IsRelied, IsUnreferred, MayFollow, component_access, is_object, hold_in, stacked, none_spared, sparing, outer_hold, outer_value}
 use Rattle.ada_sound.proofs.Orderings.{AsGood}
 use Rattle.ada_sound.proofs.InsideRecords.{TasksInside}
 use Rattle.ada_typed.specs.Holding.{PartsLie}
@@ -235,8 +235,8 @@ WillBeCovered implicit p t [] = Unit {0}
 WillBeCovered implicit p t (GivesBack v cause pool ∷ k) = IsCovered implicit p cause t
 WillBeCovered implicit p t (f ∷ k) = Unit {0}
 
--- Objects may be freed only of access types of which no suspended activation has an alias, and of which no call refers to an object; and only of those
--- that the running body may free.
+-- Objects may be freed only of access types of which no suspended activation has an alias, and of which each object that a call refers to is owned outside; and only
+-- of those that the running body may free.
 abbrev pub Spares : Known → (may : ℕ → Bool) → Type 0
 Spares known may = (t : ℕ) → may t ≡ true → NoOuterAlias known.program.types (outers known) t × CoveredIn known.implicit known.program t
 
@@ -883,6 +883,15 @@ abbrev pub PassesNone : List TypeForm → Option VariableKind → List ℕ → O
 PassesNone types kind cs None = Unit {0}
 PassesNone types kind cs (Some t) = passes_type types kind cs t ≡ false
 
+-- So it is with those behind the first selector.
+abbrev pub PassesNoneBehind : List TypeForm → Option VariableKind → List ℕ → Option ℕ → Type 0
+PassesNoneBehind types kind [] access = Unit {0}
+PassesNoneBehind types kind (c ∷ cs) access = PassesNone types (selected_kind types kind c) cs access
+
+-- So it is with those behind a value of this kind, and with that value itself, unless a suspended activation owns what it names.
+abbrev pub PassesNoneOwn : List TypeForm → Outsiders → Value → Option VariableKind → List ℕ → Option ℕ → Type 0
+PassesNoneOwn types outer v kind cs access = PassesNone types kind cs access ⊎ (NamesOwnedOutside outer v × PassesNoneBehind types kind cs access)
+
 -- Where operations may be called for an object of this access type that touch storage, those that end it neither follow nor free values of this other one, if it is an
 -- access type: an object of that holds the component which names the former (7.6.1).
 abbrev pub SparesHolder : Known → (access holder : ℕ) → Type 0
@@ -893,13 +902,13 @@ abbrev pub EndsWellBy : Known → (access : ℕ) → Holds → Type 0
 EndsWellBy known t holds = Spares known (known.implicit.end_frees t) × Unaliased known.program.variables (known.implicit.end_frees t) holds
 
 -- A component is to be freed (13.11.2), by the instance for its own access type, to which these selectors lead, and this one behind them: no value on the
--- way is of that type, whose aliases are lost then, and where an exception is raised; operations that are called then spare the object in which the component lies; less
--- may be known behind it, where its finalization frees objects.
+-- way is of that type, but for the first one, if a suspended activation owns what it names; aliases of the type are lost then, and where an exception is raised;
+-- operations that are called then spare the object in which the component lies; less may be known behind it, where its finalization frees objects.
 pub record Releasing (known : Known) (heap : List Object) (v : Value) (cs : List ℕ) (instance c : ℕ) (k : Control) (rooms : Rooms) (holds : Holds) : Type 0 where
   pub from : Option VariableKind
   pub access : Option ℕ
   pub is_from : OfKind heap v from
-  pub passes : PassesNone known.program.types from (cs ++ c ∷ []) access
+  pub passes : PassesNoneOwn known.program.types (outers known) v from (cs ++ c ∷ []) access
   pub of_type : access_of (selectors_kind known.program.types from (cs ++ c ∷ [])) ≡ access
   pub frees_own : access ≡ Some instance
   pub own : (t : ℕ) → access ≡ Some t → is_access known.program.types t ≡ true

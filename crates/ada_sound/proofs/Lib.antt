@@ -197,6 +197,8 @@ pub mod AssignedParts
 pub mod Holders
 -- what Free of a component does
 pub mod Releases
+-- what is freed next
+pub mod FreedInside
 -- record objects are declared
 pub mod Records
 -- records to which others are copied that own something
@@ -328,6 +330,8 @@ pub mod Shunning
 pub mod ShunningEnds
 -- where its body begins
 pub mod TouchingBegins
+-- what is initialized is owned outside of the bodies that run inside
+pub mod BegunOutside
 pub mod WatchedBegins
 pub mod TouchingStarts
 -- what a body sees

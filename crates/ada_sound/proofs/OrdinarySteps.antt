@@ -208,7 +208,7 @@ unfolding next
 ordinary program s grounds o low stays inner n is same =
     let known = known_in program (running_procedure s) o.suspensions in
     fine_in program s o.suspensions o.stands o.calm o.settled n same
-    (subst (λ (coming : Next). Fine known s.heap s.masters coming) is (inside.fine known (copies_at program (running_procedure s) o.suspensions grounds.well grounds.obeys.0) any_type program.types.items (reaches_in program (running_procedure s) o.suspensions) (body_forms program) (may_call program (running_procedure s) o.suspensions grounds.well) s (allocates_at program (running_procedure s) o.suspensions s grounds.well grounds.obeys.0 grounds.apart grounds.releases) inner grounds.typed.inside (own_bodies (program_form program) grounds.frees_own (running_procedure s)) (collect_two (program_form program) s grounds.nested) (grounds.finalizes o.calm known.program.types)
+    (subst (λ (coming : Next). Fine known s.heap s.masters coming) is (inside.fine known (copies_at program (running_procedure s) o.suspensions grounds.well grounds.obeys.0) any_type program.types.items (reaches_in program (running_procedure s) o.suspensions) (body_forms program) (may_call program (running_procedure s) o.suspensions grounds.well) s (allocates_at program (running_procedure s) o.suspensions s grounds.well grounds.obeys.0 grounds.apart grounds.releases) inner grounds.typed.inside (own_bodies (program_form program) grounds.frees_own (running_procedure s)) (collect_two (program_form program) s grounds.nested) (grounds.finalizes o.calm known.program.types (outers known))
     (λ p x under found. absurd (none_is_under program (running_procedure s) o.suspensions o.settled p under))
     (λ runs. any_freed s.control)
     low
@@ -355,7 +355,7 @@ module _ (program : Program) (a : Activation Value) (rest : List (Activation Val
     -- What comes next, by the treatment.
     pub treated_in : TreatedIn treater a rest s program.types.items (body_forms program) k IsOperated v (frame_next named program.types.items (body_forms program) (Treats v treatment tasks) (state_with Running k (a ∷ rest) s))
     unfolding next
-    treated_in = treated_next program a rest k s v treatment tasks grounds o.suspensions (grounds.finalizes o.calm treater.program.types) o.ready.1
+    treated_in = treated_next program a rest k s v treatment tasks grounds o.suspensions (grounds.finalizes o.calm treater.program.types (outers treater)) o.ready.1
 
     -- So the step is known.
     pub treating_step : FineIn program whole (frame_next named program.types.items (body_forms program) (Treats v treatment tasks) (state_with Running k (a ∷ rest) s))

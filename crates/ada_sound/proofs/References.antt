@@ -26,7 +26,7 @@ use Rattle.ada_meaning.specs.declared.state.Value.TheVariants.{Null, Names, Scal
 use Rattle.ada_meaning.specs.Step.{operand_count, given_values, references_in}
 use Rattle.ada_meaning.specs.Named.{Object}
 use Rattle.ada_owners.specs.Places.{access_at}
-use Rattle.ada_sound.proofs.Fits.{Outsiders, Reference, IsReferred, referred_first, referred_behind, referred_either, Fit, none_spared, place_at, names_object, is_object}
+use Rattle.ada_sound.proofs.Fits.{Outsiders, Reference, IsOwnedOutside, IsReferred, referred_first, referred_behind, referred_either, Fit, none_spared, place_at, names_object, is_object}
 use Rattle.ada_sound.proofs.Begins.{Opened, IsSpared, component_opened, record_referred, from_root}
 use Rattle.ada_sound.proofs.Followings as followings
 use Rattle.ada_sound.proofs.Followings.{kept_apart}
@@ -317,8 +317,8 @@ module _ (types : List TypeForm) (own : List VariableForm) (may : ℕ → Bool) 
         more_opened (referred_from heap rs) (referred_of heap r ++ referred_from heap rs) rs (λ o t is. referred_behind (referred_of heap r) (referred_from heap rs) o t is) later,
       )
 
-  -- None of it is of an access type of which the call may free objects.
-  module _ (records : (x : ℕ) (t : TypeNo) → variable_kind own x ≡ Some (kinds.Record t) → is_access types t.0 ≡ false) (t : ℕ) (frees : may t ≡ true) (of_access : is_access types t ≡ true) (spares : (o : Id) → IsReferred outer.referenced o t → ⊥) where
+  -- All of it that is of an access type of which the call may free objects is owned outside.
+  module _ (records : (x : ℕ) (t : TypeNo) → variable_kind own x ≡ Some (kinds.Record t) → is_access types t.0 ≡ false) (t : ℕ) (frees : may t ≡ true) (of_access : is_access types t ≡ true) (spares : (o : Id) → IsReferred outer.referenced o t → IsOwnedOutside outer o) where
     part_same : (v : Value) (p o : Id) (place : Place) (u : ℕ) → v ≡ Part p place → access_at heap p ≡ Some u → IsReferred (referred_of heap v) o t → (p ≡ o) × (u ≡ t)
     part_same v p o place u is at refers = go (rw (is, at) at refers)
       where
@@ -326,15 +326,15 @@ module _ (types : List TypeForm) (own : List VariableForm) (may : ℕ → Bool) 
         go (inl same) = same
         go (inr none) = absurd none
 
-    opened_spared : (path : PathForm) (r : Value) (o : Id) → GivenScalar path → OpenedBy heap places path r → IsReferred (referred_of heap r) o t → ⊥
+    opened_spared : (path : PathForm) (r : Value) (o : Id) → GivenScalar path → OpenedBy heap places path r → IsReferred (referred_of heap r) o t → IsOwnedOutside outer o
     opened_spared path r o s by refers =
         let h = opens_it_by path r s by in
         let same = part_same r h.o o (record { component = h.c; part = 0 }) h.t h.is h.there refers in
         go h.o h.t h.spared same
       where
-        go : (p : Id) (u : ℕ) → IsSpared (λ may'. component_passes types own may' path ≡ false) outer.referenced p u → (p ≡ o) × (u ≡ t) → ⊥
-        go p u (inl static) same = let never = static may s.safe in let one = same.1 in cc (rw one at never, frees)
-        go p u (inr known) same = spares p (rw same.1 at known)
+        go : (p : Id) (u : ℕ) → IsSpared (λ may'. component_passes types own may' path ≡ false) outer.referenced p u → (p ≡ o) × (u ≡ t) → IsOwnedOutside outer o
+        go p u (inl static) same = let never = static may s.safe in let one = same.1 in absurd (cc (rw one at never, frees))
+        go p u (inr known) same = spares o (rw (same.0, same.1) at known)
 
     kind_spared : (path : PathForm) (found : Option VariableKind) → path_kind types own path ≡ found → access_of found ≡ Some t → (component_passes types own may path || is_freed may (path_access types own path)) ≡ false → ⊥
     kind_spared path None leads at safe = cc at
@@ -355,17 +355,17 @@ module _ (types : List TypeForm) (own : List VariableForm) (may : ℕ → Bool) 
             cc (none, of)
         go (c ∷ cs) is = let none = selectors_no_object types (variable_kind own path.root) c cs (kinds.Record object) is in cc none
 
-    record_spared : (p : RecordPathForm) (v : Value) (o : Id) → is_record_path types own p ≡ true → ReferredBy heap places p v → lost_by (hold_at holds p.object.root) p.object.spot ≡ None → record_passes types own may p ≡ false → IsReferred (referred_of heap v) o t → ⊥
+    record_spared : (p : RecordPathForm) (v : Value) (o : Id) → is_record_path types own p ≡ true → ReferredBy heap places p v → lost_by (hold_at holds p.object.root) p.object.spot ≡ None → record_passes types own may p ≡ false → IsReferred (referred_of heap v) o t → IsOwnedOutside outer o
     record_spared p v o lies by kept safe refers =
         let h = record_referred f p v lies kept by in
         let same = part_same v h.o o h.place h.t h.is h.there refers in
         go h.o h.t h.spared same
       where
-        go : (q : Id) (u : ℕ) → (access_of (path_kind types own p.object) ≡ Some u) ⊎ IsReferred outer.referenced q u → (q ≡ o) × (u ≡ t) → ⊥
-        go q u (inl at) same = kind_spared p.object (path_kind types own p.object) refl (rw same.1 at at) safe
-        go q u (inr known) same = spares q (rw same.1 at known)
+        go : (q : Id) (u : ℕ) → (access_of (path_kind types own p.object) ≡ Some u) ⊎ IsReferred outer.referenced q u → (q ≡ o) × (u ≡ t) → IsOwnedOutside outer o
+        go q u (inl at) same = absurd (kind_spared p.object (path_kind types own p.object) refl (rw same.1 at at) safe)
+        go q u (inr known) same = spares o (rw (same.0, same.1) at known)
 
-    either_spared : (v : Value) (rs : List Reference) (o : Id) → (IsReferred (referred_of heap v) o t → ⊥) → (IsReferred rs o t → ⊥) → IsReferred (referred_of heap v ++ rs) o t → ⊥
+    either_spared : (v : Value) (rs : List Reference) (o : Id) → (IsReferred (referred_of heap v) o t → IsOwnedOutside outer o) → (IsReferred rs o t → IsOwnedOutside outer o) → IsReferred (referred_of heap v ++ rs) o t → IsOwnedOutside outer o
     either_spared v rs o here later is = elim (referred_either (referred_of heap v) rs o t is) [ inl e ↦ here e | inr e ↦ later e ]
 
     fits_record : (kind : VariableKind) (p : RecordPathForm) → actual_fits types own kind (in_record p) ≡ true → is_record_path types own p ≡ true
@@ -386,10 +386,10 @@ module _ (types : List TypeForm) (own : List VariableForm) (may : ℕ → Bool) 
         let safe = passed_safe (again || record_passes types own may p) (hold_at holds p.object.root) p.object.spot used in
         (safe.1, or_false again (record_passes types own may p) safe.0)
 
-    values_spared : (ks : List VariableKind) (actuals : List ActualForm) (vs : List Value) (earlier : List ActualForm) → actuals_fit types own ks actuals ≡ true → AreGiven heap places actuals vs → NoneBroken holds (uses_in_actuals types own may earlier actuals) → (o : Id) → IsReferred (referred_by heap actuals vs) o t → ⊥
-    values_spared ks [] vs earlier suits given kept o is = is
-    values_spared [] (a ∷ rest) vs earlier suits given kept o is = cc suits
-    values_spared (k ∷ ks) (a ∷ rest) [] earlier suits given kept o is = is
+    values_spared : (ks : List VariableKind) (actuals : List ActualForm) (vs : List Value) (earlier : List ActualForm) → actuals_fit types own ks actuals ≡ true → AreGiven heap places actuals vs → NoneBroken holds (uses_in_actuals types own may earlier actuals) → (o : Id) → IsReferred (referred_by heap actuals vs) o t → IsOwnedOutside outer o
+    values_spared ks [] vs earlier suits given kept o is = absurd is
+    values_spared [] (a ∷ rest) vs earlier suits given kept o is = absurd (cc suits)
+    values_spared (k ∷ ks) (a ∷ rest) [] earlier suits given kept o is = absurd is
     values_spared (k ∷ ks) (in_value e ∷ rest) (v ∷ vs) earlier suits given kept o is = values_spared ks rest vs (earlier ++ in_value e ∷ []) (and_parts (actual_fits types own k (in_value e)) (actuals_fit types own ks rest) suits).1 given.1 (kept_apart holds (uses_in_actual types own may earlier (in_value e)) (uses_in_actuals types own may (earlier ++ in_value e ∷ []) rest) kept).1 o is
     values_spared (k ∷ ks) (in_null ∷ rest) (v ∷ vs) earlier suits given kept o is = values_spared ks rest vs (earlier ++ in_null ∷ []) (and_parts (actual_fits types own k (in_null)) (actuals_fit types own ks rest) suits).1 given.1 (kept_apart holds (uses_in_actual types own may earlier (in_null)) (uses_in_actuals types own may (earlier ++ in_null ∷ []) rest) kept).1 o is
     values_spared (k ∷ ks) (in_access path ∷ rest) (v ∷ vs) earlier suits given kept o is = values_spared ks rest vs (earlier ++ in_access path ∷ []) (and_parts (actual_fits types own k (in_access path)) (actuals_fit types own ks rest) suits).1 given.1 (kept_apart holds (uses_in_actual types own may earlier (in_access path)) (uses_in_actuals types own may (earlier ++ in_access path ∷ []) rest) kept).1 o is
@@ -407,10 +407,10 @@ module _ (types : List TypeForm) (own : List VariableForm) (may : ℕ → Bool) 
         let safe = record_safe (is_begun_with earlier p.object.root) p two.0 in
         either_spared v (referred_by heap rest vs) o (record_spared p v o (fits_out_record k p both.0) given.0 safe.0 safe.1) (values_spared ks rest vs (earlier ++ in_out_record p ∷ []) both.1 given.1 two.1 o) is
 
-    references_spared : (ks : List VariableKind) (actuals : List ActualForm) (rs : List Value) (earlier : List ActualForm) → actuals_fit types own ks actuals ≡ true → ReferTo heap places actuals rs → NoneBroken holds (uses_in_actuals types own may earlier actuals) → (o : Id) → IsReferred (referred_from heap rs) o t → ⊥
-    references_spared ks [] [] earlier suits refer kept o is = is
-    references_spared ks [] (r ∷ rs) earlier suits refer kept o is = refer
-    references_spared [] (a ∷ rest) rs earlier suits refer kept o is = cc suits
+    references_spared : (ks : List VariableKind) (actuals : List ActualForm) (rs : List Value) (earlier : List ActualForm) → actuals_fit types own ks actuals ≡ true → ReferTo heap places actuals rs → NoneBroken holds (uses_in_actuals types own may earlier actuals) → (o : Id) → IsReferred (referred_from heap rs) o t → IsOwnedOutside outer o
+    references_spared ks [] [] earlier suits refer kept o is = absurd is
+    references_spared ks [] (r ∷ rs) earlier suits refer kept o is = absurd refer
+    references_spared [] (a ∷ rest) rs earlier suits refer kept o is = absurd (cc suits)
     references_spared (k ∷ ks) (in_value e ∷ rest) rs earlier suits refer kept o is = references_spared ks rest rs (earlier ++ in_value e ∷ []) (and_parts (actual_fits types own k (in_value e)) (actuals_fit types own ks rest) suits).1 refer (kept_apart holds (uses_in_actual types own may earlier (in_value e)) (uses_in_actuals types own may (earlier ++ in_value e ∷ []) rest) kept).1 o is
     references_spared (k ∷ ks) (in_null ∷ rest) rs earlier suits refer kept o is = references_spared ks rest rs (earlier ++ in_null ∷ []) (and_parts (actual_fits types own k (in_null)) (actuals_fit types own ks rest) suits).1 refer (kept_apart holds (uses_in_actual types own may earlier (in_null)) (uses_in_actuals types own may (earlier ++ in_null ∷ []) rest) kept).1 o is
     references_spared (k ∷ ks) (in_access path ∷ rest) rs earlier suits refer kept o is = references_spared ks rest rs (earlier ++ in_access path ∷ []) (and_parts (actual_fits types own k (in_access path)) (actuals_fit types own ks rest) suits).1 refer (kept_apart holds (uses_in_actual types own may earlier (in_access path)) (uses_in_actuals types own may (earlier ++ in_access path ∷ []) rest) kept).1 o is
@@ -418,14 +418,14 @@ module _ (types : List TypeForm) (own : List VariableForm) (may : ℕ → Bool) 
     references_spared (k ∷ ks) (in_out_access path ∷ rest) rs earlier suits refer kept o is = references_spared ks rest rs (earlier ++ in_out_access path ∷ []) (and_parts (actual_fits types own k (in_out_access path)) (actuals_fit types own ks rest) suits).1 refer (kept_apart holds (uses_in_actual types own may earlier (in_out_access path)) (uses_in_actuals types own may (earlier ++ in_out_access path ∷ []) rest) kept).1 o is
     references_spared (k ∷ ks) (in_record p ∷ rest) rs earlier suits refer kept o is = references_spared ks rest rs (earlier ++ in_record p ∷ []) (and_parts (actual_fits types own k (in_record p)) (actuals_fit types own ks rest) suits).1 refer (kept_apart holds (uses_in_actual types own may earlier (in_record p)) (uses_in_actuals types own may (earlier ++ in_record p ∷ []) rest) kept).1 o is
     references_spared (k ∷ ks) (in_out_record p ∷ rest) rs earlier suits refer kept o is = references_spared ks rest rs (earlier ++ in_out_record p ∷ []) (and_parts (actual_fits types own k (in_out_record p)) (actuals_fit types own ks rest) suits).1 refer (kept_apart holds (uses_in_actual types own may earlier (in_out_record p)) (uses_in_actuals types own may (earlier ++ in_out_record p ∷ []) rest) kept).1 o is
-    references_spared (k ∷ ks) (in_out_component path ∷ rest) [] earlier suits refer kept o is = refer
+    references_spared (k ∷ ks) (in_out_component path ∷ rest) [] earlier suits refer kept o is = absurd refer
     references_spared (k ∷ ks) (in_out_component path ∷ rest) (r ∷ rs) earlier suits refer kept o is =
         let both = and_parts (actual_fits types own k (in_out_component path)) (actuals_fit types own ks rest) suits in
         let two = kept_apart holds (uses_in_actual types own may earlier (in_out_component path)) (uses_in_actuals types own may (earlier ++ in_out_component path ∷ []) rest) kept in
         either_spared r (referred_from heap rs) o (opened_spared path r o (given_scalar k path earlier both.0 two.0) refer.0) (references_spared ks rest rs (earlier ++ in_out_component path ∷ []) both.1 refer.1 two.1 o) is
 
-    -- None that the call passes.
-    pub all_spared : (ks : List VariableKind) (actuals : List ActualForm) (vs rs : List Value) → actuals_fit types own ks actuals ≡ true → AreGiven heap places actuals vs → ReferTo heap places actuals rs → NoneBroken holds (uses_in_actuals types own may [] actuals) → (o : Id) → IsReferred (referred_by heap actuals vs ++ referred_from heap rs) o t → ⊥
+    -- So is all that the call passes.
+    pub all_spared : (ks : List VariableKind) (actuals : List ActualForm) (vs rs : List Value) → actuals_fit types own ks actuals ≡ true → AreGiven heap places actuals vs → ReferTo heap places actuals rs → NoneBroken holds (uses_in_actuals types own may [] actuals) → (o : Id) → IsReferred (referred_by heap actuals vs ++ referred_from heap rs) o t → IsOwnedOutside outer o
     all_spared ks actuals vs rs suits given refer kept o is =
         elim (referred_either (referred_by heap actuals vs) (referred_from heap rs) o t is) [ inl e ↦ values_spared ks actuals vs [] suits given kept o e | inr e ↦ references_spared ks actuals rs [] suits refer kept o e ]
 

@@ -27,20 +27,20 @@ use Rattle.ada_meaning.specs.declared.event.Cause.TheVariants.{Freeing}
 use Rattle.ada_meaning.specs.Frame.{Does, FreesIn, Ends, GivesBack, ClearsIn, ends}
 use Rattle.ada_meaning.specs.State.{Activation, home_of, pool_freed_to}
 use Rattle.ada_meaning.specs.Step.{all_tasks, before_last, last_of, path_next, freed_next, free_component_next, free_in_next}
-use Rattle.ada_meaning.specs.Named.{store, Object, State, object_at, look, named, parted, inside}
+use Rattle.ada_meaning.specs.Named.{store, Object, State, object_at, look, named, parted, whole, inside}
 use Rattle.ada_quiet.specs.Releases.{lies_inside}
 use Rattle.ada_sound.specs.Always.{reaches_holder}
 use Rattle.ada_owners.specs.Keeping.{IsThere}
 use Rattle.ada_owners.specs.Places.{is_there, access_at}
 use Rattle.ada_owners.specs.Reliance.{IsOf}
 use Rattle.ada_owners.proofs.Objects.{present_at}
-use Rattle.ada_sound.proofs.Fits.{Outsiders, IsReferred, NoOuterAlias, MayFollow, place_at, component_access, component_is, weaker_fit, behind_fit, component_unnamed, less_unnamed, same_unnamed, part_fit}
+use Rattle.ada_sound.proofs.Fits.{Outsiders, IsOwnedOutside, NamesOwnedOutside, NoOuterAlias, MayFollow, place_at, component_access, component_is, component_inside, weaker_fit, behind_fit, component_unnamed, less_unnamed, same_unnamed, part_fit}
 use Rattle.ada_sound.proofs.Objects.{set_here}
 use Rattle.ada_sound.proofs.Stored.{stored_part}
 use Rattle.ada_sound.proofs.Alters.{alters_set}
 use Rattle.ada_sound.proofs.Assigned.{this_is, freed_at}
 use Rattle.ada_sound.proofs.Homes.{HaveHomes, same_one, stands_there, freed_home}
-use Rattle.ada_sound.proofs.Invariant.{Spares, CoveredIn, begun, outers, Known, Control, Goes, To, Raised, RunsOn, PassesNone, SparesHolder, EndsWellBy, FreesWell, Releasing, Working, Ending, Stepped, Fine, ways}
+use Rattle.ada_sound.proofs.Invariant.{Spares, CoveredIn, begun, outers, Known, Control, Goes, To, Raised, RunsOn, PassesNone, PassesNoneOwn, SparesHolder, EndsWellBy, FreesWell, Releasing, Working, Ending, Stepped, Fine, ways}
 use Rattle.ada_sound.proofs.Ready.{running, at_work, stays, runs_ready, jumps_less, treats_ready}
 use Rattle.ada_sound.proofs.Outcomes.{ends_goes}
 use Rattle.ada_sound.proofs.Roots.{access_leads, root_object, object_there, front_raises}
@@ -90,13 +90,13 @@ passes_none : (types : List TypeForm) (variables : List VariableForm) (path : Pa
 passes_none types variables path cs None is e = tt
 passes_none types variables path cs (Some t) is e = rw is at e
 
--- From where the path begins it passes its own type nowhere, either: an object that a call refers to is of another one.
+-- From where the path begins it passes its own type nowhere, either: an object that a call refers to is of another one, or owned outside.
 or_both : (a b : Bool) → a ≡ false → b ≡ false → a || b ≡ false
 or_both true b x y = absurd (cc x)
 or_both false b x y = y
 
-passes_root : (types : List TypeForm) (outer : Outsiders) (heap : List Object) (kind : Option VariableKind) (v : Value) (b : Root types outer.referenced heap kind v) (c : ℕ) (cs : List ℕ) (to : VariableKind) (access : Option ℕ) → selectors_kind types kind (c ∷ cs) ≡ Some to → ((t : ℕ) → access ≡ Some t → (is_access types t ≡ true) × NoOuterAlias types outer t) → PassesNone types kind (c ∷ cs) access → PassesNone types b.from (inside v c ∷ cs) access
-passes_root types outer heap kind v b c cs to None leads spares passes = tt
+passes_root : (types : List TypeForm) (outer : Outsiders) (heap : List Object) (kind : Option VariableKind) (v : Value) (b : Root types outer.referenced heap kind v) (c : ℕ) (cs : List ℕ) (to : VariableKind) (access : Option ℕ) → selectors_kind types kind (c ∷ cs) ≡ Some to → ((t : ℕ) → access ≡ Some t → (is_access types t ≡ true) × NoOuterAlias types outer t) → PassesNone types kind (c ∷ cs) access → PassesNoneOwn types outer (whole v) b.from (inside v c ∷ cs) access
+passes_root types outer heap kind v b c cs to None leads spares passes = inl tt
 passes_root types outer heap kind v b c cs to (Some t) leads spares passes = by b.is
   where
     h : (k : VariableKind) × (selected_kind types kind c ≡ Some k)
@@ -105,22 +105,23 @@ passes_root types outer heap kind v b c cs to (Some t) leads spares passes = by 
     same : selected_kind types b.from (inside v c) ≡ selected_kind types kind c
     same = b.leads c [] h.0 h.1 ∙ sym h.1
 
-    apart : (u : ℕ) (o : Id) → IsReferred outer.referenced o u → is_this t (Some u) ≡ false
-    apart u o refers = go (u == t) refl
-      where
-        go : (e : Bool) → (u == t) ≡ e → (u == t) ≡ false
-        go false e = e
-        go true e =
-            let one : u ≡ t = eqb-true u t e in
-            let n = spares t refl in
-            absurd (n.1.1 o (rw one at refers) n.0)
+    later : passes_type types (selected_kind types b.from (inside v c)) cs t ≡ false
+    later = let behind = or_false (is_this t (access_of kind)) (passes_type types (selected_kind types kind c) cs t) passes in rw same behind
 
-    by : IsAlone kind b.from v ⊎ IsPart types outer.referenced kind b.from v → PassesNone types b.from (inside v c ∷ cs) (Some t)
-    by (inl a) = rw (a.2, a.1 c) passes
-    by (inr a) =
-        let here : is_this t (access_of b.from) ≡ false = rw a.from_is (apart a.t a.o a.refers) in
-        let later = or_false (is_this t (access_of kind)) (passes_type types (selected_kind types kind c) cs t) passes in
-        or_both (is_this t (access_of b.from)) (passes_type types (selected_kind types b.from (inside v c)) cs t) here (rw same later)
+    by : IsAlone kind b.from v ⊎ IsPart types outer.referenced kind b.from v → PassesNoneOwn types outer (whole v) b.from (inside v c ∷ cs) (Some t)
+    by (inl a) = inl (rw (a.2, a.1 c) passes)
+    by (inr a) = go (a.t == t) refl
+      where
+        go : (e : Bool) → (a.t == t) ≡ e → PassesNoneOwn types outer (whole v) b.from (inside v c ∷ cs) (Some t)
+        go false other =
+            let here : is_this t (access_of b.from) ≡ false = rw a.from_is other in
+            inl (or_both (is_this t (access_of b.from)) (passes_type types (selected_kind types b.from (inside v c)) cs t) here later)
+        go true own =
+            let one : a.t ≡ t = eqb-true a.t t own in
+            let n = spares t refl in
+            let outside : IsOwnedOutside outer a.o = n.1.1 a.o (rw one at (a.refers)) n.0 in
+            let names : NamesOwnedOutside outer (whole v) = rw a.is outside in
+            inr (names, later)
 
 module _ (known : Known) (a : Activation Value) (rest : List (Activation Value)) (s : State) where
   -- A Free of a component begins: its object is found first.
@@ -153,7 +154,7 @@ module _ (known : Known) (a : Activation Value) (rest : List (Activation Value))
         from = b.from;
         access = own;
         is_from = λ o object names found. root_access b o object names found;
-        passes = let here : PassesNone types b.from (before_last (inside v c) cs ++ last_of (inside v c) cs ∷ []) own = rw (front_last (inside v c) cs) (passes_root types (outers known) s.heap (variable_kind variables path.root) v b c cs to.0 own from_kind (λ t same. (is_own t same, spares_own t same)) (passes_none types variables path (c ∷ cs) own is none_own)) in here;
+        passes = let here : PassesNoneOwn types (outers known) (whole v) b.from (before_last (inside v c) cs ++ last_of (inside v c) cs ∷ []) own = rw (front_last (inside v c) cs) (passes_root types (outers known) s.heap (variable_kind variables path.root) v b c cs to.0 own from_kind (λ t same. (is_own t same, spares_own t same)) (passes_none types variables path (c ∷ cs) own is none_own)) in here;
         of_type = rw (front_last (inside v c) cs) (ap access_of from_here ∙ named_type);
         frees_own = this_is access own by_own;
         own = is_own;
@@ -171,7 +172,7 @@ module _ (known : Known) (a : Activation Value) (rest : List (Activation Value))
       }))
       (root_follows path.root path.spot kept.0 w.fit)
 
-  module _ (types : List TypeDefinition) (access c : ℕ) (k : Control) (below : List Value) (may : ℕ → Bool) (homes : HaveHomes may known.program.types (outers known).under s.heap s.masters) (freely : may access ≡ true) where
+  module _ (types : List TypeDefinition) (access c : ℕ) (k : Control) (below : List Value) (may : ℕ → Bool) (homes : HaveHomes may known.program.types (outers known) s.heap s.masters) (freely : may access ≡ true) where
     -- The component is null: nothing happens.
     null_freed : (o : Id) → IsThere s.heap o → Working known s.heap a.places s.masters (Releasing known s.heap (Names o) [] access c k) → Stepped known s.heap (Followed (Names o)) (running k (record a { operands = below }) rest s)
     null_freed o there w =
@@ -185,7 +186,7 @@ module _ (known : Known) (a : Activation Value) (rest : List (Activation Value))
         let here = w.rest.is_from o object refl found in
         sym (selected_access known.program.types w.rest.from object c here) ∙ w.rest.of_type
 
-    -- What the component names has the component's access type, and is another object than its own.
+    -- What the component names has the component's access type, and is another object than its own: that one is of another type, or owned outside.
     named_type : (o : Id) (object : Object) (p : Id) → object_at s.heap o ≡ Some object → is_there object.stage ≡ true → slice_get object.cell.values c ≡ Some (Names p) → (w : Working known s.heap a.places s.masters (Releasing known s.heap (Names o) [] access c k)) → IsOf (access_at s.heap) w.rest.access p
     named_type o object p found listed at w =
         let same = names_own o object found w in
@@ -196,20 +197,28 @@ module _ (known : Known) (a : Activation Value) (rest : List (Activation Value))
         let one : is_this t (Some u) ≡ true = eq-eqb u t same in
         cc (rw here at passes, one)
 
+    other_object : (o : Id) (object : Object) (p : Id) (t : ℕ) → object_at s.heap o ≡ Some object → (w : Working known s.heap a.places s.masters (Releasing known s.heap (Names o) [] access c k)) → w.rest.access ≡ Some t → access_at s.heap p ≡ Some t → (IsOwnedOutside (outers known) p → ⊥) → o ≢ p
+    other_object o object p t found w is_t of_t inner same = by w.rest.passes
+      where
+        by : PassesNoneOwn known.program.types (outers known) (Names o) w.rest.from (c ∷ []) w.rest.access → ⊥
+        by (inl none) =
+            let there = present_at s.heap p t of_t in
+            let one : object ≡ there.object = let f = there.found in cc (rw same at found, f) in
+            other_type object.cell.access w.rest.from t (w.rest.is_from o object refl found) (rw is_t at none) (ap (λ (x : Object). x.cell.access) one ∙ there.access)
+        by (inr own) = inner (rw same at (own.0))
+
     ends_next : (o : Id) (object : Object) (p : Id) (t : ℕ) → object_at s.heap o ≡ Some object → is_there object.stage ≡ true → slice_get object.cell.values c ≡ Some (Names p) → (w : Working known s.heap a.places s.masters (Releasing known s.heap (Names o) [] access c k)) → w.rest.access ≡ Some t → access_at s.heap p ≡ Some t → Fine known s.heap s.masters (freed_next named types access (Names o) c (Names p) (named.standing s.heap (Names p)) (running k (record a { operands = below }) rest s))
     ends_next o object p t found held at w is_t of_t =
         let there = present_at s.heap p t of_t in
         let exists = (w.stored.sane p there.object there.found).there_exists there.there in
-        let apart : o ≢ p = λ same. (
-        let one : object ≡ there.object = let f = there.found in cc (rw same at found, f) in
-        other_type object.cell.access w.rest.from t (w.rest.is_from o object refl found) (rw is_t at w.rest.passes) (ap (λ (x : Object). x.cell.access) one ∙ there.access)
-        ) in
+        let inner : IsOwnedOutside (outers known) p → ⊥ = component_inside o object c p refl found held at w.fit in
+        let apart : o ≢ p = other_object o object p t found w is_t of_t inner in
         let unnamed = component_unnamed o object c p (Some t) (λ u e. (w.rest.own u (is_t ∙ e), w.rest.spares u (is_t ∙ e))) found held at of_t w.fit in
         let elsewhere = stored_elsewhere s.heap o object c p there.object (parted there.object) found there.found apart in
         let after = part_fit p there.object elsewhere.1 unnamed.0 in
         let aside = same_unnamed (store s.heap (Names o) c Null) p there.object elsewhere.1 p unnamed.1 (parted there.object) refl (λ c. refl) in
         let by_own : t ≡ access = let own = w.rest.frees_own in cc (is_t, own) in
-        let stands = stands_there p there.object homes w.stored there.found there.there (rw there.access (w.rest.own t is_t)) (rw (there.access, by_own) freely) in
+        let stands = stands_there p there.object homes w.stored there.found there.there (rw there.access (w.rest.own t is_t)) (rw (there.access, by_own) freely) inner in
         let all_run : To (λ less. RunsOn known k w.rooms less × EndsWellBy known t less) (behind_end known.program.variables w.rest.access w.holds) = (w.rest.runs.0, w.rest.runs.1, (w.rest.runs.2.0, w.rest.runs.2.1 t is_t)) in
         let runs : To (λ less. RunsOn known k w.rooms less × EndsWellBy known t less) (behind_end known.program.variables (Some t) w.holds) = rw is_t at all_run in
         let home = freed_home access p there.object homes w.stored there.found exists (rw there.access (w.rest.own t is_t)) (there.access ∙ by_own) in

@@ -291,7 +291,6 @@ sound_step program s choice e after r step = record {
   spares_own = r.spares_own;
   lets_nothing_out = r.lets_nothing_out;
   spares_holders = r.spares_holders;
-  spares_starts = r.spares_starts;
   obeys = r.obeys;
   goes = goes_so program s.heap e after (led program s choice e after r step);
   idle = λ none. step_idle program none s after choice e (r.idle none) step;

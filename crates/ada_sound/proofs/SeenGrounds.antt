@@ -50,6 +50,7 @@ use Rattle.ada_sound.proofs.Departing.{IsLeft, Seen, next_member, treated, confi
 use Rattle.ada_sound.specs.Always.{reaches_holder}
 use Rattle.ada_sound.proofs.FreesInside.{FreesNoneInside}
 use Rattle.ada_sound.proofs.Grounds.{Grounds, IsReached, may_free}
+use Rattle.ada_sound.proofs.Fits.{Outsiders}
 use Rattle.ada_sound.proofs.Invariant.{Control}
 use Rattle.ada_sound.proofs.Operating.{IsCalm}
 use Rattle.ada_sound.proofs.SeenStates.{real_there, seen_at, seen_cells, seen_control, seen_mode, seen_there}
@@ -272,15 +273,15 @@ module _ (program : Program) {access item : ℕ} {pool : Option ℕ} {ghosts : I
 
   -- No treatment comes to a value that does not exist, where nothing is freed next, and no ghost is treated.
   finalizes_so :
-      (types : List TypeForm) (m : Mode) (k : Control) → begins_freeing k ≡ false
+      (types : List TypeForm) (outer : Outsiders) (m : Mode) (k : Control) → begins_freeing k ≡ false
       → ((w : Value) (treatment : Treatment) (tasks : List Task) (j : Control) → k ≡ frame.Treats w treatment tasks ∷ j → is_ghost ghosts w ≡ false)
-      → FinalizesIn any_type types tds bodies m k s → FinalizesIn any_type types tds bodies m k v
-  finalizes_so types Running (frame.Does fs ∷ k) none plain f = absurd (cc none)
-  finalizes_so types Running (frame.FreesIn t c ∷ k) none plain f = absurd (cc none)
-  finalizes_so types Running (frame.Treats w treatment tasks ∷ k) none plain f = λ twice.
+      → FinalizesIn any_type types outer tds bodies m k s → FinalizesIn any_type types outer tds bodies m k v
+  finalizes_so types outer Running (frame.Does fs ∷ k) none plain f = absurd (cc none)
+  finalizes_so types outer Running (frame.FreesIn t c ∷ k) none plain f = absurd (cc none)
+  finalizes_so types outer Running (frame.Treats w treatment tasks ∷ k) none plain f = λ twice.
       f (halts_so ghosts (treats_next named tds bodies w treatment tasks (task_next tasks) (record s { mode = Running; control = k })) (treats_next named tds bodies w treatment tasks (task_next tasks) (record v { mode = Running; control = k })) (Erroneous FinalizesTwice)
       (treats_alike w treatment tasks k (plain w treatment tasks k refl)) twice)
-  finalizes_so types m k none plain f = tt
+  finalizes_so types outer m k none plain f = tt
 
   -- What the running body may free is the same.
   may_free_so : (t : ℕ) → may_free program v t ≡ may_free program s t
@@ -346,14 +347,13 @@ module _ (program : Program) {access item : ℕ} {pool : Option ℕ} {ghosts : I
       grounds_so :
           HasHomeThere access item pool s
           → ((w : Value) (treatment : Treatment) (tasks : List Task) (k : Control) → s.control ≡ frame.Treats w treatment tasks ∷ k → Untouched none_hidden ghosts s)
-          → (IsCalm (behind_call v.control) → (types : List TypeForm) → FinalizesIn any_type types tds bodies v.mode v.control v) → Grounds program v
+          → (IsCalm (behind_call v.control) → (types : List TypeForm) (outer : Outsiders) → FinalizesIn any_type types outer tds bodies v.mode v.control v) → Grounds program v
       grounds_so home untouched finalizes = record {
         well = grounds.well;
         in_use = grounds.in_use;
         frees_own = grounds.frees_own;
         spares_own = grounds.spares_own;
         lets_nothing_out = grounds.lets_nothing_out;
-        spares_starts = grounds.spares_starts;
         obeys = grounds.obeys;
         idle = λ none. record {
           control = subst (ControlIsIdle forms) (sym (seen_control seen)) ((grounds.idle none).control);
@@ -380,7 +380,7 @@ module _ (program : Program) {access item : ℕ} {pool : Option ℕ} {ghosts : I
     -- While an operation runs that does not free objects of the collection, and looks at no ghost.
     pub seen_grounds_within : HasHomeThere access item pool s → Untouched none_hidden ghosts s → (IsCalm (behind_call s.control) → ⊥) → may_free program s access ≡ false → Grounds program v
     seen_grounds_within home untouched runs spares =
-        grounds_so (λ so. spares) home (λ w treatment tasks k is. untouched) (λ calm types. absurd (runs (subst (λ (k : Control). IsCalm (behind_call k)) (seen_control seen) calm)))
+        grounds_so (λ so. spares) home (λ w treatment tasks k is. untouched) (λ calm types outer. absurd (runs (subst (λ (k : Control). IsCalm (behind_call k)) (seen_control seen) calm)))
 
     -- Where no operation runs: what is treated next is no ghost.
     module _ (master : ℕ) where
@@ -420,7 +420,7 @@ module _ (program : Program) {access item : ℕ} {pool : Option ℕ} {ghosts : I
           grounds_so (λ so. absurd (so calm))
           (record { home = home; around = λ ds fs hs k m rest is masters. absurd (left_begins_none s.control left ds fs hs k is) })
           (λ w treatment tasks k is. left_untouched s.mode s.control refl refl runs w treatment tasks k is (left_plain s.control left w treatment tasks k is))
-          (λ so types.
-          subst (λ (m : Mode). FinalizesIn any_type types tds bodies m v.control v) (sym (seen_mode seen))
-          (subst (λ (k : Control). FinalizesIn any_type types tds bodies s.mode k v) (sym (seen_control seen))
-          (finalizes_so types s.mode s.control (left_frees_none s.control left) (left_plain s.control left) (grounds.finalizes calm types))))
+          (λ so types outer.
+          subst (λ (m : Mode). FinalizesIn any_type types outer tds bodies m v.control v) (sym (seen_mode seen))
+          (subst (λ (k : Control). FinalizesIn any_type types outer tds bodies s.mode k v) (sym (seen_control seen))
+          (finalizes_so types outer s.mode s.control (left_frees_none s.control left) (left_plain s.control left) (grounds.finalizes calm types outer))))

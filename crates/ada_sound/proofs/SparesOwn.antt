@@ -19,7 +19,7 @@ use Rattle.ada_program.specs.declared.program.Finalization.{Finalization}
 use Rattle.ada_program.specs.declared.program.Program.{Program}
 use Rattle.ada_program.specs.ProgramForm.{TypeForm, record_of, access_to, object_of, ProgramForm, program_form}
 use Rattle.ada_program.specs.WellFormed.{IsWellFormed, designated_in, finalization_in, finalization_of, is_access, named_in, object_named}
-use Rattle.ada_sound.specs.Always.{spares_own_type, spare_own_types, SparesOwn, start_spares, starts_spare}
+use Rattle.ada_sound.specs.Always.{spares_own_type, spare_own_types, SparesOwn}
 use Rattle.ada_sound.proofs.FrugalUseEnds.{lying_does}
 use Rattle.ada_sound.proofs.FrugalUseParts.{some_parts}
 use Rattle.ada_typed.specs.Holding.{PartsLie}
@@ -68,28 +68,6 @@ spares_end p own t is =
     let both = spares_both p own t is in
     let follows = parts_do (does_by p (Follows (record { 0 = t }))) Finalize (record_at p.types t) in
     (first_not ((implicit_of p).end_frees t t) follows both.0, both.1)
-
--- The initialization of an object of an access type frees none of that type (7.6, 13.11.2).
-starts_at : (implicit : Implicit) (from : ℕ) (types : List TypeForm) → starts_spare implicit from types ≡ true → (i n : ℕ) → n ≡ from + i → (t : TypeForm) → slice_get types i ≡ Some t
-    → start_spares implicit n t ≡ true
-starts_at implicit from [] spares i n is t at = absurd (cc at)
-starts_at implicit from (u ∷ types) spares zero n is t at =
-    let here : start_spares implicit from u ≡ true = (and_parts (start_spares implicit from u) (starts_spare implicit (suc from) types) spares).0 in
-    let first : n ≡ from = omega (arith, is) in
-    let same : u ≡ t = cc at in
-    rw (first, ← same) here
-starts_at implicit from (u ∷ types) spares (suc i) n is t at =
-    starts_at implicit (suc from) types (and_parts (start_spares implicit from u) (starts_spare implicit (suc from) types) spares).1 i n (omega (arith, is)) t at
-
-pub spares_start : (p : ProgramForm) → starts_spare (implicit_of p) 0 p.types ≡ true → (t : ℕ) → is_access p.types t ≡ true → (implicit_of p).start_frees t t ≡ false
-spares_start p spares t is = by (slice_get p.types t) refl is
-  where
-    by : (o : Option TypeForm) → slice_get p.types t ≡ o → is_some (designated_in o) ≡ true → (implicit_of p).start_frees t t ≡ false
-    by None at is' = absurd (cc is')
-    by (Some (record_of name parts components finalization)) at is' = absurd (cc is')
-    by (Some (access_to name designated pool)) at is' =
-        not-true ((implicit_of p).start_frees t t) (starts_at (implicit_of p) 0 p.types spares t t (omega arith) (access_to name designated pool) at)
-    by (Some (object_of record_type)) at is' = absurd (cc is')
 
 -- A record type with controlled parts is its own record type.
 own_record : (types : List TypeForm) (t : ℕ) (f : Finalization) (o : Option TypeForm) → finalization_in o ≡ Some f → record_in t o ≡ Some t

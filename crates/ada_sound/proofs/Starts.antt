@@ -18,7 +18,7 @@ use Rattle.ada_flow.specs.Tracking.{Tracks, no_tracks}
 use Rattle.ada_meaning.specs.Step.{blanks}
 use Rattle.ada_meaning.specs.Named.{State, named}
 use Rattle.ada_meaning.specs.Run.{here, first_state}
-use Rattle.ada_sound.specs.Always.{LetsNothingOut, SparesHolders, SparesOwn, SparesStarts, reaches_holder}
+use Rattle.ada_sound.specs.Always.{LetsNothingOut, SparesHolders, SparesOwn, reaches_holder}
 use Rattle.ada_idle.proofs.Idle.{IsIdle}
 use Rattle.ada_idle.proofs.Runs.{first_idle}
 use Rattle.ada_idle.proofs.Unadjusted.{AdjustsNone}
@@ -60,7 +60,6 @@ pub record Sound (program : Program) (s : State) : Type 0 where
   pub spares_own : SparesOwn program
   pub lets_nothing_out : LetsNothingOut (program_form program)
   pub spares_holders : SparesHolders program
-  pub spares_starts : SparesStarts program
   pub obeys : Obeys program
   pub goes : Ordinary program s ⊎ (Operates program s ⊎ (Touching program s ⊎ (AdjustingCopy program s ⊎ Departing program s)))
   pub idle : makes_parts (program_form program) ≡ false → IsIdle (program_form program).types s
@@ -118,8 +117,8 @@ ready_first program input well obeys =
       },
     )
 
-pub sound_first : (program : Program) (input : List ℤ) → IsWellFormed (program_form program) → operations_are_in_use (program_form program) ≡ true → CollectionsNest (program_form program) → FreesItsOwn (program_form program) → SparesOwn program → LetsNothingOut (program_form program) → SparesHolders program → SparesStarts program → ObeysRules program → Sound program (first_state program input)
-sound_first program input well uses nest own spares lets_none holders starts obeys = let obeys_so : Obeys program = (tracks_safely (program_form program) well uses, obeys) in record {
+pub sound_first : (program : Program) (input : List ℤ) → IsWellFormed (program_form program) → operations_are_in_use (program_form program) ≡ true → CollectionsNest (program_form program) → FreesItsOwn (program_form program) → SparesOwn program → LetsNothingOut (program_form program) → SparesHolders program → ObeysRules program → Sound program (first_state program input)
+sound_first program input well uses nest own spares lets_none holders obeys = let obeys_so : Obeys program = (tracks_safely (program_form program) well uses, obeys) in record {
   reached = (input, [], here);
   well = well;
   in_use = uses;
@@ -127,7 +126,6 @@ sound_first program input well uses nest own spares lets_none holders starts obe
   spares_own = spares;
   lets_nothing_out = lets_none;
   spares_holders = holders;
-  spares_starts = starts;
   obeys = obeys_so;
   goes = inl (record {
     suspensions = [];

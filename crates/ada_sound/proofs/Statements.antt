@@ -263,7 +263,7 @@ module _ (known : Known) where
         (before_lost variables may raised downs)
         (loses_goes variables may o (RunsOn known k rooms) raised lost)
 
-    frees_fine : (may : ℕ → Bool) (defined : List TypeDefinition) (cs : List ℕ) (access : ℕ) (path : PathForm) (fs : StmtsForm) (k : Control) → HaveHomes may known.program.types (outers known).under s.heap s.masters → may access ≡ true → is_freed_by known.program.types access (path_access known.program.types known.program.variables path) ≡ true → is_this access (path_access known.program.types known.program.variables path) ≡ true → Spares known (λ t. is_this t (path_access known.program.types known.program.variables path)) → path.selectors ≡ cs → (known.touches access ≡ true → lies_inside path ≡ true → reaches_holder known.implicit known.program.types access ≡ false) → Working known s.heap a.places s.masters (λ rooms holds. Goes (frees_seen known.program.types known.program.variables no_tracks false known.implicit cs path holds) (To (FreesTo known access (Does fs ∷ k) rooms)) (Raised (free_among path) (ways known k rooms))) → Fine known s.heap s.masters (frees_next named defined cs access path.root (running (Does fs ∷ k) a rest s))
+    frees_fine : (may : ℕ → Bool) (defined : List TypeDefinition) (cs : List ℕ) (access : ℕ) (path : PathForm) (fs : StmtsForm) (k : Control) → HaveHomes may known.program.types (outers known) s.heap s.masters → may access ≡ true → is_freed_by known.program.types access (path_access known.program.types known.program.variables path) ≡ true → is_this access (path_access known.program.types known.program.variables path) ≡ true → Spares known (λ t. is_this t (path_access known.program.types known.program.variables path)) → path.selectors ≡ cs → (known.touches access ≡ true → lies_inside path ≡ true → reaches_holder known.implicit known.program.types access ≡ false) → Working known s.heap a.places s.masters (λ rooms holds. Goes (frees_seen known.program.types known.program.variables no_tracks false known.implicit cs path holds) (To (FreesTo known access (Does fs ∷ k) rooms)) (Raised (free_among path) (ways known k rooms))) → Fine known s.heap s.masters (frees_next named defined cs access path.root (running (Does fs ∷ k) a rest s))
     frees_fine may defined [] access path fs k homes freely freed by_own spares is outside w =
         let own = freed_at known.program.types known.program.variables access path freed in
         let at : path_access known.program.types known.program.variables path ≡ Some access = this_is access (path_access known.program.types known.program.variables path) by_own in
@@ -365,7 +365,7 @@ module _ (known : Known) where
         (first.0, (λ may. first.2 may ConstraintError (or_left (expression_raises low) (expression_raises high) may)), (second.0, (λ may. second.2 may ConstraintError (or_right (expression_raises low) (expression_raises high) may)), (λ v. second.1)))
 
     -- Statements.
-    stmt_fine : (may : ℕ → Bool) (defined : List TypeDefinition) → Reaches known defined → (bodies : List BodyForm) → CopiesWell known.program.types → (inside : Bool) (here : Where) (f : StmtForm) → (is_call f ≡ true → MayCall known bodies) → (fs : StmtsForm) (k : Control) → FreesSpared known.implicit known.program.types known.touches (Does (a_stmt f fs) ∷ k) → HaveHomes may known.program.types (outers known).under s.heap s.masters → FreesAmong may (Does (a_stmt f fs) ∷ k) → statement_is_of_kind known.program.types known.program.variables known.program.texts known.program.exceptions (callable_in known.program) inside f ≡ true → statement_frees_own known.program.types known.program.variables f ≡ true → Working known s.heap a.places s.masters (λ rooms holds. Starting known here f fs k (ways known k rooms) holds) → Fine known s.heap s.masters (stmt_next named defined bodies f (running (Does fs ∷ k) a rest s))
+    stmt_fine : (may : ℕ → Bool) (defined : List TypeDefinition) → Reaches known defined → (bodies : List BodyForm) → CopiesWell known.program.types → (inside : Bool) (here : Where) (f : StmtForm) → (is_call f ≡ true → MayCall known bodies) → (fs : StmtsForm) (k : Control) → FreesSpared known.implicit known.program.types known.touches (Does (a_stmt f fs) ∷ k) → HaveHomes may known.program.types (outers known) s.heap s.masters → FreesAmong may (Does (a_stmt f fs) ∷ k) → statement_is_of_kind known.program.types known.program.variables known.program.texts known.program.exceptions (callable_in known.program) inside f ≡ true → statement_frees_own known.program.types known.program.variables f ≡ true → Working known s.heap a.places s.masters (λ rooms holds. Starting known here f fs k (ways known k rooms) holds) → Fine known s.heap s.masters (stmt_next named defined bodies f (running (Does fs ∷ k) a rest s))
     stmt_fine may defined reaches bodies copies inside here skips calling fs k outside homes freely fits own w = runs_on known (Does fs ∷ k) a rest s (at_work w w.rest.1.0) Quiet tt
     stmt_fine may defined reaches bodies copies inside here (assigns target right) calling fs k outside homes freely fits own w =
         let types = known.program.types in
@@ -442,7 +442,7 @@ module _ (known : Known) where
           },
         ) tt
 
-    pub stmts_fine : (may : ℕ → Bool) (defined : List TypeDefinition) → Reaches known defined → (bodies : List BodyForm) → CopiesWell known.program.types → (inside : Bool) (fs : StmtsForm) → (begins_call fs ≡ true → MayCall known bodies) → (k : Control) → FreesSpared known.implicit known.program.types known.touches (Does fs ∷ k) → HaveHomes may known.program.types (outers known).under s.heap s.masters → FreesAmong may (Does fs ∷ k) → statements_are_of_kind known.program.types known.program.variables known.program.texts known.program.exceptions (callable_in known.program) inside fs ≡ true → statements_free_own known.program.types known.program.variables fs ≡ true → Resumes known s.heap a.places s.masters (Does fs ∷ k) → Fine known s.heap s.masters (stmts_next named defined bodies fs (running k a rest s))
+    pub stmts_fine : (may : ℕ → Bool) (defined : List TypeDefinition) → Reaches known defined → (bodies : List BodyForm) → CopiesWell known.program.types → (inside : Bool) (fs : StmtsForm) → (begins_call fs ≡ true → MayCall known bodies) → (k : Control) → FreesSpared known.implicit known.program.types known.touches (Does fs ∷ k) → HaveHomes may known.program.types (outers known) s.heap s.masters → FreesAmong may (Does fs ∷ k) → statements_are_of_kind known.program.types known.program.variables known.program.texts known.program.exceptions (callable_in known.program) inside fs ≡ true → statements_free_own known.program.types known.program.variables fs ≡ true → Resumes known s.heap a.places s.masters (Does fs ∷ k) → Fine known s.heap s.masters (stmts_next named defined bodies fs (running k a rest s))
     stmts_fine may defined reaches bodies copies inside fs calling k outside homes freely fits own (inr h) = half_begins known a rest s defined bodies fs k h
     stmts_fine may defined reaches bodies copies inside no_stmts calling k outside homes freely fits own (inl w) = runs_on known k a rest s (at_less w w.rest.2.0) Quiet tt
     stmts_fine may defined reaches bodies copies inside (a_stmt f fs) calling k outside homes freely fits own (inl w) = stmt_fine may defined reaches bodies copies inside w.rest.0 f calling fs k outside homes freely (and_parts _ _ fits).0 (and_parts _ _ own).0 (at_work w (starts known f fs k (ways known k w.rooms) w.holds w.rest))

@@ -30,7 +30,7 @@ use Rattle.ada_meaning.specs.Named.{Object, State, object_at}
 use Rattle.ada_typed.proofs.Kept.{behind_call}
 use Rattle.ada_sound.proofs.Bodies.{IsBody}
 use Rattle.ada_sound.proofs.Callers.{Suspension, known_in, Stands, callers_of}
-use Rattle.ada_sound.proofs.Fits.{Fit, Outsiders, IsPlace, IsRelied, IsSaid, IsUnreferred, component_access, none_spared, outer_hold, outer_value, place_at, Reference, IsReferred}
+use Rattle.ada_sound.proofs.Fits.{Fit, Outsiders, IsPlace, IsRelied, IsSaid, IsUnreferred, IsOwnedOutside, component_access, none_spared, outer_hold, outer_value, place_at, Reference, IsReferred}
 use Rattle.ada_sound.proofs.Allowance.{Allowance, allowance_of}
 use Rattle.ada_sound.proofs.FrugalControl.{FrugalOperated, Frugally, IsInside, operated_in}
 use Rattle.ada_sound.proofs.Held.{FreeIf, holder_if}
@@ -296,7 +296,7 @@ Watched program (Some w) behind lower s =
     × IsReaching p (watches p.types (Some w)) apart (is_watched (Some w)) (is_unnamed p.types (Some w)) behind lower s)
 
 -- What is known where such a body is called: what waits for it, whether the object is held, which is in hand then, and what it may free, of which there is no
--- alias. That is no other object to which the activation that waits refers.
+-- alias. Each other object of that to which the activation that waits refers is owned outside of it.
 pub record Enters (known : Known) (treatment : Treatment) (o : Id) (x : Object) (after : Control) (heap : List Object) (places operands : List Value) (masters : List Master) : Type 0 where
   pub rooms : Rooms
   pub holds : Holds
@@ -314,7 +314,7 @@ pub record Enters (known : Known) (treatment : Treatment) (o : Id) (x : Object) 
   pub includes : (t : ℕ) → treated_frees known.implicit treatment x.cell.access after t ≡ true → may t ≡ true
   pub spares : Spares known may
   pub unaliased : Unaliased known.program.variables may holds
-  pub kept : (p : Id) (t : ℕ) → IsReferred also p t → may t ≡ true → is_access known.program.types t ≡ true → ⊥
+  pub kept : (p : Id) (t : ℕ) → IsReferred also p t → may t ≡ true → is_access known.program.types t ≡ true → IsOwnedOutside (outers known) p
 
 -- The activation that waits for the body, whose formal parameter stands for a record in the object.
 abbrev pub resting : (procedure : Option ℕ) (places : List Value) (treatment : Treatment) (object : Id) (access : ℕ) (also : List Reference) (place : Place) (behind : Control) (lower : List Master) → Keeping → Rooms → Holds → Suspension
@@ -339,10 +339,10 @@ abbrev pub holding : (held : Bool) (procedure : Option ℕ) (places : List Value
 holding held procedure places treatment object access also place behind lower kept rooms holds =
     record (resting procedure places treatment object access also place behind lower kept rooms holds) { held = holder_if held object access }
 
--- What the body of such an operation may free: for an object that is initialized, none of its own access type; for one that is finalized, what its end may
--- free.
+-- What the body of such an operation may free: for an object that is finalized, what its end may free; for one that is initialized, whatever is owned by the
+-- bodies that run then.
 abbrev pub CoversBy : ProgramForm → Treatment → (access freed : ℕ) → Type 0
-CoversBy p (begins by done) access t = is_access p.types t ≡ true → access ≢ t
+CoversBy p (begins by done) access t = Unit {0}
 CoversBy p (ends cause) access t = (implicit_of p).end_frees access t ≡ true
 
 -- The body of such an operation runs, or one that it has called, or the operation of an object that one of these frees or allocates: `depth` activations wait

@@ -35,15 +35,16 @@ use Rattle.ada_owners.specs.Reliance.{Owns, Borrows, Says}
 use Rattle.ada_typed.proofs.Bodies.{seen_as}
 use Rattle.ada_sound.proofs.Activations.{called_fit}
 use Rattle.ada_sound.proofs.Alters.{Alters}
+use Rattle.ada_sound.proofs.BegunOutside.{begun_owned, owned_behind}
 use Rattle.ada_sound.proofs.Bodies.{IsBody, seen_is}
 use Rattle.ada_sound.proofs.BodyRuns.{body_runs}
 use Rattle.ada_sound.proofs.Calls.{home_low, relied_says}
 use Rattle.ada_sound.proofs.Callers.{Suspension, caller_of, known_in, Stands}
-use Rattle.ada_sound.proofs.Touching.{CoversBy, Enters, Pause, under_way, Watched, holding, origin}
+use Rattle.ada_sound.proofs.Touching.{CoversBy, Enters, Pause, Rests, under_way, Watched, holding, origin}
 use Rattle.ada_sound.proofs.SparesOwn.{spares_end}
 use Rattle.ada_sound.specs.Agreement.{running_procedure}
 use Rattle.ada_sound.specs.Always.{SparesOwn}
-use Rattle.ada_sound.proofs.Fits.{Fit, IsPlace, IsReferred, IsSaid, IsWithin, NoOuterAlias, none_spared, outer_access, outer_hold, place_at, IsRelied, there_by, Reference}
+use Rattle.ada_sound.proofs.Fits.{Fit, IsOwnedOutside, IsPlace, IsReferred, IsSaid, IsWithin, NoOuterAlias, none_spared, outer_access, outer_hold, place_at, IsRelied, there_by, Reference}
 use Rattle.ada_sound.proofs.Held.{fit_held, held_borrows, held_lies, holder_if, with_held}
 use Rattle.ada_sound.proofs.Invariant.{Control, CoveredIn, Known, Ready, RunsOn, Spares, outer_of, outers, body_among, IsAwaited}
 use Rattle.ada_sound.proofs.Operating.{WaitsFor, behind_operation, lets_out}
@@ -55,7 +56,10 @@ use Rattle.ada_quiet.specs.Apart.{is_tracker}
 use Rattle.ada_sound.proofs.Stored.{stored_entered, IsUnder}
 use Rattle.ada_sound.proofs.Waiting.{stands_kept}
 use Rattle.ada_program.specs.declared.program.Exception.{Exception}
+use Rattle.ada_meaning.specs.declared.event.Birth.{Birth}
+use Rattle.ada_meaning.specs.declared.event.Cause.{Cause}
 use Rattle.ada_meaning.specs.declared.event.Cause.TheVariants.{Leaving, Freeing, Assigning, Undoing}
+use Rattle.ada_parts.specs.Part as parts
 
 -- The body of an operation that touches storage has begun, in a master of its own: the activation that waits for it, in front of these, goes on behind it, with this
 -- treatment, and in the masters that were entered before.
@@ -164,17 +168,24 @@ module _ (program : Program) (well : IsWellFormed (program_form program)) (obeys
       let now : Fit (seen_by number b p).types (seen_by number b p).variables (outers body) none_spared heap begins first = rw same at begun_fit in
       rw (seen_as p number b there) now
 
-  -- What the body may free, the treatment of the object may. It may not free the object itself: neither the initialization of an object nor its end frees one of its own
-  -- type.
+  -- What the body may free, the treatment of the object may. It may not free the object itself: the end of an object frees none of its own type, and one that is
+  -- initialized is owned outside of the body.
   module _ (frees : (t : ℕ) → CoveredIn (implicit_of p) own t → at.may t ≡ true) (covers_by : (t : ℕ) → CoveredIn (implicit_of p) own t → CoversBy p treatment x.cell.access t) (lets : (e : Exception) → body_among (implicit_of p) own e ≡ true → lets_out (implicit_of p) x.cell.access treatment e ≡ true) where
-    -- An object of this type is not what is treated.
-    other_type : (by : Treatment) (t : ℕ) → CoversBy p by x.cell.access t → is_access known.program.types t ≡ true → x.cell.access ≡ t → ⊥
-    other_type (frame.begins how done) t other access same = other (subst (λ (types : List TypeForm). is_access types t ≡ true) (same_types a.procedure p) access) same
-    other_type (frame.ends cause) t ended access same =
+    -- An object that is finalized is of no type that the body may free.
+    other_type : (cause : Cause) → treatment ≡ frame.ends cause → (t : ℕ) → CoveredIn (implicit_of p) own t → is_access known.program.types t ≡ true → x.cell.access ≡ t → ⊥
+    other_type cause is t covered access same =
         let accessed : is_access p.types t ≡ true = subst (λ (types : List TypeForm). is_access types t ≡ true) (same_types a.procedure p) access in
+        let ended : (implicit_of p).end_frees x.cell.access t ≡ true = subst (λ (by : Treatment). CoversBy p by x.cell.access t) is (covers_by t covered) in
         let spared = (spares_end p spares_own t accessed).0 in
         let freed : (implicit_of p).end_frees t t ≡ true = rw same at ended in
         cc (spared, freed)
+
+    -- One that is initialized is owned outside of the body.
+    owned_now : (by : Birth) (done : List parts.Part) → treatment ≡ frame.begins by done → IsOwnedOutside (outers body) o
+    owned_now by done is =
+        begun_owned known by done at.held at.watch o x.cell.access x.cell.home a.places a.operands at.also k s.masters at.rooms at.holds known.program.variables
+        (outers known).suspended
+        (subst (λ (way : Treatment). Rests known way at.held at.watch o x.cell.access x.cell.home a.places a.operands at.also k s.masters at.rooms at.holds) is at.rests)
 
     no_outer : (t : ℕ) → CoveredIn (implicit_of p) own t → NoOuterAlias known.program.types (outers body) t
     no_outer t may' = (
@@ -189,11 +200,15 @@ module _ (program : Program) (well : IsWellFormed (program_form program)) (obeys
         by_depth zero y of b' = at.unaliased y t of ends b'
         by_depth (suc d) y of b' = held_borrows at.held o x.cell.access (outers known).suspended t (at.spares t ends).0.0 d y of b'
 
-        by_reference : (p' : Id) → IsReferred (outers body).referenced p' t → is_access known.program.types t ≡ true → ⊥
-        by_reference p' (inl (same, of)) access = other_type treatment t (covers_by t may') access of
-        by_reference p' (inr is) access = by (referred_split at.also (outers known).referenced p' t is)
+        by_reference : (p' : Id) → IsReferred (outers body).referenced p' t → is_access known.program.types t ≡ true → IsOwnedOutside (outers body) p'
+        by_reference p' (inl (same, of)) access = subst (IsOwnedOutside (outers body)) same (by treatment refl)
           where
-            by : IsReferred at.also p' t ⊎ IsReferred (outers known).referenced p' t → ⊥
+            by : (way : Treatment) → treatment ≡ way → IsOwnedOutside (outers body) o
+            by (frame.begins how done) way = owned_now how done way
+            by (frame.ends cause) way = absurd (other_type cause way t may' access of)
+        by_reference p' (inr is) access = owned_behind program waiting gs p' (by (referred_split at.also (outers known).referenced p' t is))
+          where
+            by : IsReferred at.also p' t ⊎ IsReferred (outers known).referenced p' t → IsOwnedOutside (outers known) p'
             by (inl other) = at.kept p' t other ends access
             by (inr outer) = (at.spares t ends).0.1 p' outer access
 

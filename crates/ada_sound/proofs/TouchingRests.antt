@@ -33,7 +33,7 @@ use Rattle.ada_sound.proofs.Touching.{AwaitsAmong, Departs, IsNamedNowhere, Ente
 use Rattle.ada_sound.proofs.FrugalUseEnds.{any_end}
 use Rattle.ada_sound.proofs.Held.{FreeIf, emptied_hand, lost_hand, owner_or_not, unnamed_hand}
 use Rattle.ada_effects.specs.Effects.{endings_free, Implicit, assignment_frees}
-use Rattle.ada_sound.proofs.Fits.{Fit, IsRelied, IsUnreferred, Outsiders, component_access, hold_in, none_spared, in_front, lies_nowhere, outer_hold, outer_value_at, respare, place_at, sparing, stacked, store_owner, IsReferred, Reference}
+use Rattle.ada_sound.proofs.Fits.{Fit, IsOwnedOutside, IsRelied, IsUnreferred, Outsiders, component_access, hold_in, none_spared, in_front, lies_nowhere, outer_hold, outer_value_at, respare, place_at, sparing, stacked, store_owner, IsReferred, Reference}
 use Rattle.ada_sound.proofs.Invariant.{SparesHolder, Behind, CopiesBehind, Control, Ending, EndingBy, EndsTo, Freed, IsCopied, IsNewest, Known, LeavesTo, departs, Roomed, Rooms, RunsOn, ThenBack, TreatsBy, WillBeCovered, below, innermost, outers, Beginning, CameOut, ResumesTo, BeginsWell, To, By, ways, gone_in, LiesAmong, LiesIn, StoresBehind, ClearsTo, FreesWell, IsCovered, EndsWellBy, AwaitsIn, GoesTo, Making}
 use Rattle.ada_sound.proofs.NoneHidden.{set_itself}
 use Rattle.ada_sound.proofs.Objects.{set_twice}
@@ -132,8 +132,8 @@ module _ (known : Known) (o : Id) (x : Object) (heap : List Object) (found : obj
   none_others : (p : Id) (t : ℕ) → IsReferred [] p t → access_at heap p ≡ Some t
   none_others p t none = absurd none
 
-  none_kept : (may : ℕ → Bool) (p : Id) (t : ℕ) → IsReferred [] p t → may t ≡ true → is_access known.program.types t ≡ true → ⊥
-  none_kept may p t none freed access = none
+  none_kept : (may : ℕ → Bool) (p : Id) (t : ℕ) → IsReferred [] p t → may t ≡ true → is_access known.program.types t ≡ true → IsOwnedOutside (outers known) p
+  none_kept may p t none freed access = absurd none
 
   -- One is.
   one_other : (source : Reference) → access_at heap source.object ≡ Some source.access → (p : Id) (t : ℕ) → IsReferred (source ∷ []) p t → access_at heap p ≡ Some t
@@ -493,9 +493,10 @@ module _ (known : Known) (o : Id) (x : Object) (heap : List Object) (found : obj
 
   -- A record in the object is assigned to (5.2, 7.6): another record of its type lies in an object that this does not free.
   module _ (number : ℕ) (frees_none : (access t : ℕ) → IsCopied known t → LiesAmong known access t → is_access known.program.types access ≡ true → assignment_frees known.implicit access t ≡ true → ⊥) where
-    one_spared : (source : Reference) (t : ℕ) → IsCopied known t → LiesAmong known source.access t → (p : Id) (u : ℕ) → IsReferred (source ∷ []) p u → assignment_frees known.implicit u t ≡ true → is_access known.program.types u ≡ true → ⊥
-    one_spared source t copied among p u (inl (same, one)) freed access = frees_none source.access t copied among (rw (← one) at access) (rw (← one) at freed)
-    one_spared source t copied among p u (inr none) freed access = none
+    one_spared : (source : Reference) (t : ℕ) → IsCopied known t → LiesAmong known source.access t → (p : Id) (u : ℕ) → IsReferred (source ∷ []) p u → assignment_frees known.implicit u t ≡ true → is_access known.program.types u ≡ true
+        → IsOwnedOutside (outers known) p
+    one_spared source t copied among p u (inl (same, one)) freed access = absurd (frees_none source.access t copied among (rw (← one) at access) (rw (← one) at freed))
+    one_spared source t copied among p u (inr none) freed access = absurd none
 
     -- Where the copy goes.
     into_here : (t first count : ℕ) (k : Control) (rooms : Rooms) (holds : Holds) → StoresBehind known heap t (StoresRecord (Names o) first count ∷ k) rooms holds → StoresInto known o x.cell.access t (StoresRecord (Names o) first count ∷ k) rooms holds
@@ -598,7 +599,7 @@ module _ (known : Known) (o : Id) (x : Object) (heap : List Object) (found : obj
     includes = λ t is. is;
     spares = well.0;
     unaliased = well.1;
-    kept = λ p t is freed access. elim ((others p t is).1) [ inl static ↦ cc (static, freed) | inr refers ↦ (well.0 t freed).0.1 p refers access ];
+    kept = λ p t is freed access. elim ((others p t is).1) [ inl static ↦ absurd (cc (static, freed)) | inr refers ↦ (well.0 t freed).0.1 p refers access ];
   }
 
   -- Nothing waits for a name but variables.

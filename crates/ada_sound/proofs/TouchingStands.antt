@@ -1,5 +1,6 @@
 -- What the laws of finalization say while the body of an operation runs that touches storage (7.6, 7.6.1), or one in front of it: of the objects that stand,
--- and of those that are treated. None of those is freed meanwhile (13.11.2).
+-- and of those that are treated. None of those is freed meanwhile (13.11.2): what is finalized is of no type that is freed, and what is initialized is owned outside
+-- of the body that frees.
 
 use Rattle.std.proofs.Common.{◌≡◌, ℕ, suc, Bool, true, false, List, [], ◌∷◌, ◌++◌, length, refl, sym, ap, ◌∙◌, subst, ◌⊎◌, inl, inr, ◌≢◌, Option, Some}
 use Rattle.std.proofs.lemmas.Bool.{and_parts, false_from_ne_true}
@@ -31,10 +32,11 @@ use Rattle.ada_typed.proofs.Bodies.{own_bodies}
 use Rattle.ada_typed.proofs.Kept.{behind_call}
 use Rattle.ada_sound.specs.Agreement.{running_procedure}
 use Rattle.ada_sound.specs.Always.{SparesOwn}
+use Rattle.ada_sound.proofs.BegunOutside.{begun_outside, owned_behind, owned_further}
 use Rattle.ada_sound.proofs.Below.{either_one}
 use Rattle.ada_sound.proofs.Callers.{Suspension, callers_of, known_in, Stands}
 use Rattle.ada_scopes.specs.Scopes.{is_innermost}
-use Rattle.ada_sound.proofs.Fits.{IsReferred, Reference, referred_behind, referred_first}
+use Rattle.ada_sound.proofs.Fits.{IsOwnedAmong, IsOwnedOutside, IsReferred, Outsiders, Reference, referred_behind, referred_first}
 use Rattle.ada_sound.proofs.FreesCovered.{frees_among}
 use Rattle.ada_sound.proofs.Allowance.{Allowance, allowance_of}
 use Rattle.ada_sound.proofs.FrugalControl.{Frugal, FrugalLeads, FrugalLeaves, FrugalOperated, begins_first, none_operated, operated_in}
@@ -42,7 +44,7 @@ use Rattle.ada_sound.proofs.FrugalFrees.{LeftAlone}
 use Rattle.ada_sound.proofs.Leavings.{NamedBelow}
 use Rattle.ada_sound.proofs.Grounds.{Grounds, may_free}
 use Rattle.ada_sound.proofs.Homes.{NoneIsUnder}
-use Rattle.ada_sound.proofs.Invariant.{AllWait, Control, CoveredIn, Known, Ready, Rooms, outers, referenced_in, under_in, waits_covers}
+use Rattle.ada_sound.proofs.Invariant.{AllWait, Control, CoveredIn, Known, Ready, Rooms, outer_in, outers, referenced_in, under_in, waits_covers}
 use Rattle.ada_sound.proofs.Operating.{IsCalm, WaitsFor}
 use Rattle.ada_sound.proofs.Returns.{same_types}
 use Rattle.ada_sound.proofs.SparesOwn.{spares_end}
@@ -370,7 +372,7 @@ touching_frees program s grounds gs ready runs =
         let of_access : is_access (program_form program).types t ≡ true = subst (λ (types : List TypeForm). is_access types t ≡ true) (same_types (running_procedure s) (program_form program)) of in
         rw (of_access, covered) refl
 
--- No object under way is freed.
+-- No object of an operation that is under way is freed.
 module _ (program : Program) (spares : SparesOwn program) (s : State) where
   abbrev p : ProgramForm
   p = program_form program
@@ -378,21 +380,30 @@ module _ (program : Program) (spares : SparesOwn program) (s : State) where
   abbrev Covers : (procedure : Option ℕ) → ℕ → Type 0
   Covers procedure t = CoveredIn (implicit_of p) (seen_in procedure p) t
 
-  -- What the body of an operation may free is not of the type of the object that it is called for.
-  frees_other : (depth : ℕ) (f : Pause program depth s) (t : ℕ) → Covers (Some f.number) t → is_access p.types t ≡ true → t ≡ f.access → ⊥
-  frees_other depth f t covered of same = by f.treatment (f.covers t covered)
-    where
-      by : (treatment : Treatment) → CoversBy p treatment f.access t → ⊥
-      by (begins birth done) other = other of (sym same)
-      by (ends cause) may =
-          let none = (spares_end p spares t of).0 in
-          cc (none, same, may)
+  -- What the body of an operation may free that finalizes an object is not of the type of that object.
+  frees_other : (depth : ℕ) (f : Pause program depth s) (cause : Cause) → f.treatment ≡ ends cause → (t : ℕ) → Covers (Some f.number) t → is_access p.types t ≡ true → t ≡ f.access → ⊥
+  frees_other depth f cause is t covered of same =
+      let may : (implicit_of p).end_frees f.access t ≡ true = subst (λ (treatment : Treatment). CoversBy p treatment f.access t) is (f.covers t covered) in
+      let none = (spares_end p spares t of).0 in
+      cc (none, same, may)
 
   -- So it is of the object.
-  pub frees_not : (depth : ℕ) (f : Pause program depth s) (o : Id) (x : Object) → object_at s.heap o ≡ Some x → f.object ≡ o → Covers (Some f.number) x.cell.access → is_access p.types x.cell.access ≡ true → ⊥
-  frees_not depth f o x found same covered of =
+  pub frees_not : (depth : ℕ) (f : Pause program depth s) (cause : Cause) → f.treatment ≡ ends cause → (o : Id) (x : Object) → object_at s.heap o ≡ Some x → f.object ≡ o
+      → Covers (Some f.number) x.cell.access → is_access p.types x.cell.access ≡ true → ⊥
+  frees_not depth f cause is o x found same covered of =
       let one : x ≡ f.x = let here = f.found in cc (same, here, found) in
-      frees_other depth f x.cell.access covered of (ap (λ (y : Object). y.cell.access) one ∙ f.of_access)
+      frees_other depth f cause is x.cell.access covered of (ap (λ (y : Object). y.cell.access) one ∙ f.of_access)
+
+  -- An object that may be freed, and is not owned outside, is not the one of an operation: what is initialized is owned outside.
+  operated_not : (depth : ℕ) (f : Pause program depth s) (others : List Suspension) (o : Id) (x : Object) → object_at s.heap o ≡ Some x
+      → (IsOwnedAmong (outer_in (callers_of program (origin program depth s f ∷ others))) o → ⊥) → f.object ≡ o
+      → Covers (Some f.number) x.cell.access → is_access p.types x.cell.access ≡ true → ⊥
+  operated_not depth f others o x found inside same covered of = by f.treatment refl
+    where
+      by : (treatment : Treatment) → f.treatment ≡ treatment → ⊥
+      by (begins birth done) is =
+          inside (subst (IsOwnedAmong (outer_in (callers_of program (origin program depth s f ∷ others)))) same (begun_outside program depth s f birth done is others))
+      by (ends cause) is = frees_not depth f cause is o x found same covered of
 
   -- An object that is under way in an activation that waits for the operation is the one of the operation.
   treated_is : (treatment : Treatment) (object o : Id) → IsUnder (under_way treatment object) o → object ≡ o
@@ -404,6 +415,15 @@ module _ (program : Program) (spares : SparesOwn program) (s : State) where
   treated_is (ends (Assigning number)) object o under = absurd under
   treated_is (ends (Undoing number)) object o (inl same) = same
   treated_is (ends (Undoing number)) object o (inr none) = absurd none
+
+  -- So it is none that may be freed: what is under way is finalized.
+  under_not : (depth : ℕ) (f : Pause program depth s) (o : Id) (x : Object) → object_at s.heap o ≡ Some x → IsUnder (under_way f.treatment f.object) o
+      → Covers (Some f.number) x.cell.access → is_access p.types x.cell.access ≡ true → ⊥
+  under_not depth f o x found under covered of = by f.treatment refl under
+    where
+      by : (treatment : Treatment) → f.treatment ≡ treatment → IsUnder (under_way treatment f.object) o → ⊥
+      by (begins birth done) is under' = under'
+      by (ends cause) is under' = frees_not depth f cause is o x found (treated_is (ends cause) f.object o under') covered of
 
   module _ (frugal : Allowance) (back : Control) (lower : List Master) where
     -- What the running body may free, that of the outermost operation may free.
@@ -435,7 +455,7 @@ module _ (program : Program) (spares : SparesOwn program) (s : State) where
         by further (inl here) =
             let f = operation.pause in
             let way : IsUnder (under_way f.treatment f.object) o = subst (λ (waiting : Suspension). IsUnder waiting.under o) operation.is here in
-            frees_not depth f o x found (treated_is f.treatment f.object o way) (subst (λ (own : Option ℕ). Covers own x.cell.access) operation.runs covered) of
+            under_not depth f o x found way (subst (λ (own : Option ℕ). Covers own x.cell.access) operation.runs covered) of
         by further (inr later) = further later
 
     -- The object whose operation such an activation waits for is the first one.
@@ -444,22 +464,28 @@ module _ (program : Program) (spares : SparesOwn program) (s : State) where
     operated_first running depth others among g operation =
         ap (λ (waiting : Suspension). operated_in waiting.control) operation.is ∙ operated_is program depth s operation.pause
 
-    -- Nor is it one whose operation they wait for.
+    -- Nor is an object that the running body may free one whose operation they wait for, if it is not owned outside.
     pub operated_apart :
         (procedure : Option ℕ) (depth number : ℕ) (others inner : List Suspension) → AreInner program s frugal back lower procedure depth (Some number) others inner
         → AllWait (implicit_of p) (seen_in procedure p) (callers_of program (inner ++ others)) → (o : Id) (x : Object) → object_at s.heap o ≡ Some x → is_access p.types x.cell.access ≡ true
-        → Covers procedure x.cell.access → IsAmong (Names o) (operated_among inner) → ⊥
-    operated_apart procedure depth number others [] w waits o x found of covered among = among
-    operated_apart procedure depth number others (g ∷ inner) (inl (call, more)) waits o x found of covered among =
+        → Covers procedure x.cell.access → (IsOwnedAmong (outer_in (callers_of program (inner ++ others))) o → ⊥) → IsAmong (Names o) (operated_among inner) → ⊥
+    operated_apart procedure depth number others [] w waits o x found of covered inside among = among
+    operated_apart procedure depth number others (g ∷ inner) (inl (call, more)) waits o x found of covered inside among =
         operated_apart g.procedure (suc depth) number others inner more waits.1 o x found of (waits_covers waits.0 x.cell.access covered)
+        (λ owned. inside (owned_behind program g (inner ++ others) o owned))
         (subst (λ (vs : List Value). IsAmong (Names o) (vs ++ operated_among inner)) (none_operated g.control call.0) among)
-    operated_apart procedure depth number others (g ∷ inner) (inr (operation, more)) waits o x found of covered among =
-        by (λ later. operated_apart g.procedure (suc depth) number others inner more waits.1 o x found of (waits_covers waits.0 x.cell.access covered) later)
+    operated_apart procedure depth number others (g ∷ inner) (inr (operation, more)) waits o x found of covered inside among =
+        by (λ later. operated_apart g.procedure (suc depth) number others inner more waits.1 o x found of (waits_covers waits.0 x.cell.access covered)
+        (λ owned. inside (owned_behind program g (inner ++ others) o owned)) later)
         (subst (λ (vs : List Value). IsAmong (Names o) (vs ++ operated_among inner))
         (operated_first procedure depth (inner ++ others) (operated_among inner) g operation) among)
       where
+        owned : IsOwnedAmong (outer_in (callers_of program (origin program depth s operation.pause ∷ inner ++ others))) o → ⊥
+        owned among' = inside (subst (λ (waiting : Suspension). IsOwnedAmong (outer_in (callers_of program (waiting ∷ inner ++ others))) o) (sym operation.is) among')
+
         by : (IsAmong (Names o) (operated_among inner) → ⊥) → IsAmong (Names o) (Names operation.pause.object ∷ operated_among inner) → ⊥
-        by further (inl same) = frees_not depth operation.pause o x found (cc same) (subst (λ (own : Option ℕ). Covers own x.cell.access) operation.runs covered) of
+        by further (inl same) =
+            operated_not depth operation.pause (inner ++ others) o x found owned (cc same) (subst (λ (own : Option ℕ). Covers own x.cell.access) operation.runs covered) of
         by further (inr later) = further later
 
     -- Each of these is one to which an activation that waits refers.
@@ -522,19 +548,20 @@ module _ (program : Program) (s : State) (grounds : Grounds program s) (gs : Lis
   waiting : AllWait (implicit_of form) (seen_in (running_procedure s) form) (callers_of program (w.inner ++ behind_it))
   waiting = subst (λ (all : List Suspension). AllWait (implicit_of form) (seen_in (running_procedure s) form) (callers_of program all)) w.are stands.standing.waiting
 
-  -- No object that the running body may free is under way.
-  pub under_outermost : (o : Id) → IsUnder (under_in (callers_of program behind_it)) o → outermost.object ≡ o
+  -- What is under way where the outermost operation waits is its object.
+  under_outermost : (o : Id) → IsUnder (under_in (callers_of program behind_it)) o → IsUnder (under_way outermost.treatment outermost.object) o
   under_outermost o under =
       elim (either_one (under_way outermost.treatment outermost.object) (under_in (callers_of program outermost.suspensions)) o under) [
-        | inl here ↦ treated_is program grounds.spares_own s outermost.treatment outermost.object o here
+        | inl here ↦ here
         | inr later ↦ absurd (subst (λ (none : List Id). IsUnder none o) w.settled later)
       ]
 
+  -- No object that the running body may free is under way.
   not_freed : (o : Id) (x : Object) → IsUnder (under_in (callers_of program gs)) o → object_at s.heap o ≡ Some x → may_free program s x.cell.access ≡ true → ⊥
   not_freed o x under found may =
       let so = may_cover program s x.cell.access may in
       none_in program grounds.spares_own s thrifty outermost.behind outermost.lower (running_procedure s) 0 outermost.number behind_it w.inner w.within waiting o x found so.0 so.1
-      (λ covered there. frees_not program grounds.spares_own s (length w.inner) outermost o x found (under_outermost o there) covered so.0)
+      (λ covered there. under_not program grounds.spares_own s (length w.inner) outermost o x found (under_outermost o there) covered so.0)
       (subst (λ (all : List Suspension). IsUnder (under_in (callers_of program all)) o) w.are under)
 
   pub none_is_under : NoneIsUnder (may_free program s) (under_in (callers_of program gs)) s.heap
@@ -577,26 +604,42 @@ module _ (program : Program) (s : State) (grounds : Grounds program s) (gs : Lis
       by (begins birth done) ms (inr (inr beginning)) = behind ms beginning.1.0.2 beginning.1.1
       by (ends cause) ms (inr (inr beginning)) = absurd beginning.1
 
-  -- The object of the outermost operation is none that the running body may free.
-  other_object : (o : Id) (x : Object) → object_at s.heap o ≡ Some x → may_free program s x.cell.access ≡ true → Names o ≡ Names outermost.object → ⊥
-  other_object o x found may same =
+  -- What is outside of the running body.
+  abbrev outer : Outsiders
+  outer = outers (known_in program (running_procedure s) gs)
+
+  -- No variable of an activation that waits owns the object.
+  abbrev IsNotOutside : Id → Type 0
+  IsNotOutside o = IsOwnedOutside outer o → ⊥
+
+  -- So none owns it of those that wait since the outermost operation, and none of those behind.
+  none_owned : (o : Id) → IsNotOutside o → IsOwnedAmong (outer_in (callers_of program (w.inner ++ behind_it))) o → ⊥
+  none_owned o inside owned = inside (subst (λ (all : List Suspension). IsOwnedAmong (outer_in (callers_of program all)) o) (sym w.are) owned)
+
+  -- The object of the outermost operation is none that the running body may free and that is not owned outside.
+  other_object : (o : Id) (x : Object) → object_at s.heap o ≡ Some x → may_free program s x.cell.access ≡ true → IsNotOutside o → Names o ≡ Names outermost.object → ⊥
+  other_object o x found may inside same =
       let so = may_cover program s x.cell.access may in
       let covered = covers_outermost program grounds.spares_own s thrifty outermost.behind outermost.lower (running_procedure s) 0 outermost.number behind_it w.inner w.within waiting x.cell.access so.1 in
-      frees_not program grounds.spares_own s (length w.inner) outermost o x found (cc same) covered so.0
+      operated_not program grounds.spares_own s (length w.inner) outermost outermost.suspensions o x found
+      (λ owned. none_owned o inside (owned_further program w.inner behind_it o owned)) (cc same) covered so.0
 
   -- Nor are those of the operations inside.
-  other_objects : (o : Id) (x : Object) → object_at s.heap o ≡ Some x → may_free program s x.cell.access ≡ true → IsAmong (Names o) (operated_among w.inner) → ⊥
-  other_objects o x found may among =
+  other_objects : (o : Id) (x : Object) → object_at s.heap o ≡ Some x → may_free program s x.cell.access ≡ true → IsNotOutside o → IsAmong (Names o) (operated_among w.inner) → ⊥
+  other_objects o x found may inside among =
       let so = may_cover program s x.cell.access may in
-      operated_apart program grounds.spares_own s thrifty outermost.behind outermost.lower (running_procedure s) 0 outermost.number behind_it w.inner w.within waiting o x found so.0 so.1 among
+      operated_apart program grounds.spares_own s thrifty outermost.behind outermost.lower (running_procedure s) 0 outermost.number behind_it w.inner w.within waiting o x found so.0 so.1
+      (none_owned o inside) among
 
-  -- Nothing begins of an object that the running body may free.
-  pub freed_begin : begins_first s.control ≡ false → (o : Id) (x : Object) → object_at s.heap o ≡ Some x → may_free program s x.cell.access ≡ true → NothingBegins (Names o) s.control
-  freed_begin first o x found may = begins_nothing first (Names o) (other_object o x found may) (other_objects o x found may)
+  -- Nothing begins of an object that the running body may free, where it is not owned outside.
+  pub freed_begin : begins_first s.control ≡ false → (o : Id) (x : Object) → object_at s.heap o ≡ Some x → may_free program s x.cell.access ≡ true → IsNotOutside o
+      → NothingBegins (Names o) s.control
+  freed_begin first o x found may inside = begins_nothing first (Names o) (other_object o x found may inside) (other_objects o x found may inside)
 
   -- So no operation of it runs, where it is in its collection.
-  pub listed_alone : begins_first s.control ≡ false → (o : Id) (x : Object) → object_at s.heap o ≡ Some x → x.listed ≡ true → may_free program s x.cell.access ≡ true → NoOperationRunsOn (Names o) s.control
-  listed_alone first o x found listed may = grounds.unrun o x found listed (freed_begin first o x found may)
+  pub listed_alone : begins_first s.control ≡ false → (o : Id) (x : Object) → object_at s.heap o ≡ Some x → x.listed ≡ true → may_free program s x.cell.access ≡ true → IsNotOutside o
+      → NoOperationRunsOn (Names o) s.control
+  listed_alone first o x found listed may inside = grounds.unrun o x found listed (freed_begin first o x found may inside)
 
   -- Nor does one run of an object in the master that is left: the objects whose operations run lie in outer ones.
   module _ (low : NamedBelow (outers (known_in program (running_procedure s) gs)) s.heap s.masters) where
@@ -640,9 +683,9 @@ module _ (program : Program) (s : State) (grounds : Grounds program s) (gs : Lis
   pub touching_runs : IsCalm (behind_call s.control) → ⊥
   touching_runs calm = waits_operated outermost.treatment outermost.awaited (frugal_calm thrifty outermost.behind (operated_among w.inner) s.mode s.control w.frugal.upper calm w.frugal.frugally)
 
-  -- Each object that may be freed stands.
-  stand : begins_first s.control ≡ false → (forms : List TypeForm) → AllStand (may_free program s) forms s.heap
-  stand first forms o x found listed of may = grounds.stands touching_runs o x found listed (freed_begin first o x found may) may
+  -- Each object that may be freed, and is not owned outside, stands.
+  stand : begins_first s.control ≡ false → (forms : List TypeForm) → AllStand (may_free program s) forms outer s.heap
+  stand first forms o x found listed of may inside = grounds.stands touching_runs o x found listed (freed_begin first o x found may inside) may
 
   -- A state with these parts.
   state_is : (mode : Mode) (k : Control) → s.mode ≡ mode → s.control ≡ k → s ≡ record s { mode = mode; control = k }
@@ -652,7 +695,7 @@ module _ (program : Program) (s : State) (grounds : Grounds program s) (gs : Lis
 
   -- An object that is treated next has values of all parts that are to be finalized: no other operation of it runs.
   treated : (v : Value) (treatment : Treatment) (tasks : List Task) (k : Control) → s.mode ≡ Running → s.control ≡ frame.Treats v treatment tasks ∷ k → NoOperationRunsOn v k → (forms : List TypeForm)
-      → FinalizesBy (may_free program s) forms types bodies (frame.Treats v treatment tasks) (record s { mode = Running; control = k })
+      → FinalizesBy (may_free program s) forms outer types bodies (frame.Treats v treatment tasks) (record s { mode = Running; control = k })
   unfolding next
   treated v treatment tasks k runs is alone forms = λ twice.
       grounds.exist v treatment tasks k is alone
@@ -660,7 +703,7 @@ module _ (program : Program) (s : State) (grounds : Grounds program s) (gs : Lis
 
   by_frame :
       (g : Frame Value) (k : Control) (ms : List Master) → s.mode ≡ Running → s.control ≡ g ∷ k → Frugal thrifty outermost.behind (operated_among w.inner) Running (g ∷ k) ms → (forms : List TypeForm)
-      → FinalizesBy (may_free program s) forms types bodies g (record s { mode = Running; control = k })
+      → FinalizesBy (may_free program s) forms outer types bodies g (record s { mode = Running; control = k })
   by_frame (frame.Does fs) k ms runs is q forms = stand (ap begins_first is) forms
   by_frame (frame.FreesIn access c) k ms runs is q forms = stand (ap begins_first is) forms
   by_frame (frame.Treats v treatment tasks) k ms runs is (inl q) forms = treated v treatment tasks k runs is q.0.3 forms
@@ -669,15 +712,15 @@ module _ (program : Program) (s : State) (grounds : Grounds program s) (gs : Lis
   by_frame (frame.Treats v (ends cause) tasks) k ms runs is (inr (inr beginning)) forms = absurd beginning.1
   by_frame g k ms runs is q forms = tt
 
-  by_mode : (mode : Mode) (k : Control) (ms : List Master) → s.mode ≡ mode → s.control ≡ k → Frugal thrifty outermost.behind (operated_among w.inner) mode k ms → (forms : List TypeForm) → FinalizesIn (may_free program s) forms types bodies mode k s
+  by_mode : (mode : Mode) (k : Control) (ms : List Master) → s.mode ≡ mode → s.control ≡ k → Frugal thrifty outermost.behind (operated_among w.inner) mode k ms → (forms : List TypeForm) → FinalizesIn (may_free program s) forms outer types bodies mode k s
   by_mode Running [] ms runs is q forms = tt
   by_mode Running (g ∷ k) ms runs is q forms = by_frame g k ms runs is q forms
   by_mode (Raising e) k ms runs is q forms = tt
   by_mode Exiting k ms runs is q forms = tt
   by_mode Returning k ms runs is q forms = tt
 
-  -- Each object that may be freed stands, and no treatment finalizes a value that does not exist.
-  pub touching_stands : (forms : List TypeForm) → FinalizesIn (may_free program s) forms types bodies s.mode s.control s
+  -- Each object that may be freed, and is not owned outside, stands, and no treatment finalizes a value that does not exist.
+  pub touching_stands : (forms : List TypeForm) → FinalizesIn (may_free program s) forms outer types bodies s.mode s.control s
   touching_stands forms = by_mode s.mode s.control w.frugal.upper refl refl w.frugal.frugally forms
 
 -- An object that is finalized has left its collection by the end of the body.

@@ -57,7 +57,7 @@ use Rattle.ada_sound.proofs.QuietOperations.{MayTouch, TouchesStorage}
 use Rattle.ada_sound.proofs.CalmObjects.{calm_finalize, calm_initialize}
 use Rattle.ada_quiet.specs.Calm.{are_calm_in}
 use Rattle.ada_sound.proofs.Items.{Houses}
-use Rattle.ada_sound.proofs.FrugalUseEnds.{ends_free, ends_in_starts, starts_free}
+use Rattle.ada_sound.proofs.FrugalUseEnds.{ends_free, ends_in_starts}
 use Rattle.ada_sound.proofs.OperationsLet.{touches_let}
 use Rattle.ada_sound.proofs.Invariant.{Control, CopiesBehind, CoveredIn, EndsTo, IsCopied, Known, TreatsBy, body_among, under_in, LiesAmong}
 use Rattle.ada_sound.proofs.Operated.{OperatedAs}
@@ -65,7 +65,7 @@ use Rattle.ada_sound.proofs.Operating.{IsCalled, IsCalm, lets_out, WaitsFor}
 use Rattle.ada_sound.proofs.OperationBegins.{formal_holds, formal_within}
 use Rattle.ada_sound.proofs.OperationStarts.{calm_behind, is_awaited, live_there}
 use Rattle.ada_sound.proofs.Returns.{same_types}
-use Rattle.ada_sound.proofs.SparesOwn.{assigned_spares, spares_start}
+use Rattle.ada_sound.proofs.SparesOwn.{assigned_spares}
 use Rattle.ada_sound.proofs.Grounds.{Grounds, treats_made}
 use Rattle.ada_sound.proofs.Treating.{treats_in_use}
 use Rattle.ada_sound.proofs.Treatments.{Begins}
@@ -216,17 +216,12 @@ module _ (program : Program) (a : Activation Value) (rest : List (Activation Val
         go true is_calm (ends cause) may' called' touches' =
             let quiet = calm_finalize program grounds.well access of part number b operable is_calm called' there in absurd (cc (quiet, touches'))
 
-    -- What the body may free is of another access type than the object, or the end of the object may free it.
-    covers_by : may_be_frugal p ≡ true → makes_parts p ≡ true → (access of part number : ℕ) (b : BodyForm) (by : Treatment) → IsOperable p.types access of part → MayTouch by
+    -- What the body may free that finalizes the object, the end of that may free.
+    covers_by : (access of part number : ℕ) (b : BodyForm) (by : Treatment) → IsOperable p.types access of part → MayTouch by
         → IsCalled (operations_of program.types.items of) by number → slice_get (body_forms program) number ≡ Some b → (t : ℕ) → CoveredIn (implicit_of p) (seen_in (Some number) p) t
         → CoversBy p by access t
-    covers_by may made access of part number b (begins Creation done) operable may' called there t covered = λ accessed same.
-        let frees = starts_free program grounds.well access of part number b operable called there t covered in
-        let spares = spares_start p (grounds.spares_starts may made) t accessed in
-        cc (frees, spares, same)
-    covers_by may made access of part number b (begins Copy done) operable may' called there t covered = absurd may'
-    covers_by may made access of part number b (begins (Adjustment n) done) operable may' called there t covered = absurd may'
-    covers_by may made access of part number b (ends cause) operable may' called there t covered = ends_free program grounds.well access of part number b operable called there t covered
+    covers_by access of part number b (begins birth done) operable may' called there t covered = tt
+    covers_by access of part number b (ends cause) operable may' called there t covered = ends_free program grounds.well access of part number b operable called there t covered
 
     -- So the body begins, for this object, in front of what is behind its treatment.
     begins_so : operations_may_be_called p ≡ true → makes_parts p ≡ true → (e : Event) (after : State) (c : Begins known a rest s program.types.items (body_forms program) k IsOperated e after) → MayTouch c.treatment → may_be_frugal p ≡ true → is_frugal_body (thrift_of p) c.b ≡ true → TouchesStorage p c.treatment c.b
@@ -254,7 +249,7 @@ module _ (program : Program) (a : Activation Value) (rest : List (Activation Val
         let lets : (raised : Exception) → body_among (implicit_of p) (seen_in (Some c.number) p) raised ≡ true → lets_out (implicit_of p) c.x.cell.access c.treatment raised ≡ true =
         touches_let program grounds.well grounds.lets_nothing_out made c.x.cell.access c.of operated.1 c.number c.b operable c.treatment touches c.called c.there in
         rw c.is (touching_begins program grounds.well grounds.obeys c.number (touches_apart program grounds.obeys.0 c.of c.number c.treatment touches c.called) c.b c.there single a rest gs s k c.o c.x c.heap c.found (live_there c.x.stage c.live) c.place within c.treatment frugal grounds.spares_own at c.behind frees
-        (covers_by may made c.x.cell.access c.of operated.1 c.number c.b c.treatment operable touches c.called c.there) lets e c.of c.tasks c.alters waits (is_awaited p.types c.o c.of c.treatment c.tasks k c.behind waits) stands
+        (covers_by c.x.cell.access c.of operated.1 c.number c.b c.treatment operable touches c.called c.there) lets e c.of c.tasks c.alters waits (is_awaited p.types c.o c.of c.treatment c.tasks k c.behind waits) stands
         (watched_begins program grounds.well uses a rest gs s c.treatment at.watch c.o c.x.cell.access c.of operated.1 c.number c.b c.place c.behind c.heap operable c.called c.there frugal at.spared at.stored))
 
     -- That is known of it, whatever runs behind it.

@@ -8,6 +8,7 @@ use Rattle.ada_program.specs.declared.program.Program.{Program}
 use Rattle.ada_program.specs.declared.program.TypeDefinition.{TypeDefinition}
 use Rattle.ada_program.specs.Form.{ActualForm}
 use Rattle.ada_program.specs.ProgramForm.{ProgramForm, BodyForm, program_form, body_forms, seen_in}
+use Rattle.ada_meaning.specs.declared.state.Id.{Id}
 use Rattle.ada_meaning.specs.declared.state.Mode.{Mode}
 use Rattle.ada_meaning.specs.declared.state.Mode.TheVariants.{Running, Raising, Exiting, Returning}
 use Rattle.ada_meaning.specs.declared.state.Value.{Value}
@@ -15,7 +16,7 @@ use Rattle.ada_meaning.specs.Event.{Quiet}
 use Rattle.ada_meaning.specs.Frame as frame
 use Rattle.ada_meaning.specs.Frame.{Frame, Calls, Returns, Treats, is_return, is_master, landing}
 use Rattle.ada_meaning.specs.State.{Activation, Master}
-use Rattle.ada_meaning.specs.Step.{halts, moves, tells, asks, picks, older, procedure_of, frame_next, pass_next, jump_next, mode_next}
+use Rattle.ada_meaning.specs.Step.{halts, moves, tells, asks, picks, older, operands, places, procedure_of, frame_next, pass_next, jump_next, mode_next}
 use Rattle.ada_meaning.specs.Named.{State, Next, named, next}
 use Rattle.ada_scopes.proofs.Components.{collect_two}
 use Rattle.ada_typed.proofs.Bodies.{own_bodies}
@@ -26,9 +27,11 @@ use Rattle.ada_sound.proofs.CallBegins.{runs_called}
 use Rattle.ada_sound.proofs.Callers.{Suspension, known_in, Stands}
 use Rattle.ada_sound.proofs.Calls.{calls_to, waiting}
 use Rattle.ada_sound.proofs.Allowance.{Allowance}
+use Rattle.ada_sound.proofs.Fits.{IsOwnedOutside}
+use Rattle.ada_sound.proofs.FreedInside.{IsFreedNext, freed_inside}
 use Rattle.ada_sound.proofs.FrugalControl.{Frugal, Frugally, GoesFrugally, is_return_first, none_operated, operated_in}
 use Rattle.ada_sound.proofs.FrugalSteps.{TreatsNothing, frugal_goes}
-use Rattle.ada_sound.proofs.Invariant.{CallsOn, Control, IsAwaited, Known, Rooms, RunsOn, Working}
+use Rattle.ada_sound.proofs.Invariant.{CallsOn, Control, IsAwaited, Known, ReadyIn, Rooms, RunsOn, Working, outers}
 use Rattle.ada_sound.proofs.Pauses.{inner_on}
 use Rattle.ada_sound.proofs.Ready.{at_work}
 use Rattle.ada_sound.proofs.Returns.{CrossesTo}
@@ -59,6 +62,13 @@ module _ (program : Program) (s : State) (f : Touching program s) (grounds : Gro
   abbrev coming : Next
   coming = next program.types.items (body_forms program) s
 
+  -- What is freed next is not owned outside.
+  next_inside : s.mode ≡ Running → (o : Id) → IsFreedNext s.heap (places s) (operands s) s.control o → IsOwnedOutside (outers (known_in program (running_procedure s) f.suspensions)) o → ⊥
+  next_inside runs o freed outside =
+      let known = known_in program (running_procedure s) f.suspensions in
+      freed_inside known s.heap (places s) (operands s) s.masters o s.control
+      (subst (λ (mode : Mode). ReadyIn known mode s.control s.heap (places s) (operands s) s.masters) runs f.ready.1) freed outside
+
   -- What is left to do is so behind each step but the end of a body, and the treatment of an object.
   goes_on : (s.mode ≡ Running → TreatsNothing s.control) → GoesFrugally (thrifty program s f) f.within.outermost.lower f.within.outermost.behind (operated_among f.within.inner) coming
   goes_on plain =
@@ -66,7 +76,7 @@ module _ (program : Program) (s : State) (f : Touching program s) (grounds : Gro
       frugal_goes program grounds.frees_own w.outermost.lower w.outermost.behind (operated_among w.inner) s w.frugal
       (λ actuals references k is. absurd (let end = not_end in cc (rw is at end))) plain grounds.typed.inside
       (may_free program s) (touching_frees program s grounds f.suspensions f.ready)
-      (λ first o x found listed may. listed_alone program s grounds f.suspensions w f.stands first o x found listed may) grounds.unborn
+      (λ runs first o x freed found listed may. listed_alone program s grounds f.suspensions w f.stands first o x found listed may (next_inside runs o freed)) grounds.unborn
       (λ runs. left_alone program s grounds f.suspensions w f.stands (λ left j is. (touching_leaves program s grounds f runs left j is).1))
 
   -- The end of no body is next.

@@ -26,9 +26,9 @@ use Rattle.ada_owners.specs.Reliance.{IsOf}
 use Rattle.ada_owners.proofs.Objects.{present_at}
 use Rattle.ada_owners.specs.Walks.{then_found, value_found, behind, walk}
 use Rattle.ada_sound.proofs.Stored.{Stored, exists_out}
-use Rattle.ada_sound.proofs.Fits.{Fit, IsPlain, ArePlain, MayFollow, none_spared, component_access, component_is, component_follows, behind_good}
+use Rattle.ada_sound.proofs.Fits.{Fit, Outsiders, IsPlain, ArePlain, MayFollow, none_spared, component_access, component_is, component_follows, behind_good}
 use Rattle.ada_sound.proofs.Orderings.{as_good_then}
-use Rattle.ada_sound.proofs.Invariant.{outers, Known, Control, Rooms, To, RaisesAt, Working, Clearing, PassesNone, FillsTo, FindsFor, FillsOn, PassesTo, PassesOn, HalfFollows, ReadyIn, Stepped, Fine, ways}
+use Rattle.ada_sound.proofs.Invariant.{outers, Known, Control, Rooms, To, RaisesAt, Working, Clearing, PassesNone, PassesNoneOwn, FillsTo, FindsFor, FillsOn, PassesTo, PassesOn, HalfFollows, ReadyIn, Stepped, Fine, ways}
 use Rattle.ada_sound.proofs.Roots.{raises_null, raises_next}
 use Rattle.ada_sound.proofs.Ready.{running, at_work, stays, jumps_less, passes_ready}
 use Rattle.ada_sound.proofs.Back.{stored_before}
@@ -157,6 +157,11 @@ passes_behind types from c cs (Some t) p = neither (is_this t (access_of from)) 
     neither true b e = absurd (cc e)
     neither false b e = e
 
+-- So it is, whatever the first value was.
+passes_next : (types : List TypeForm) (outer : Outsiders) (v : Value) (from : Option VariableKind) (c : ℕ) (cs : List ℕ) (access : Option ℕ) → PassesNoneOwn types outer v from (c ∷ cs) access → PassesNone types (selected_kind types from c) cs access
+passes_next types outer v from c cs access (inl none) = passes_behind types from c cs access none
+passes_next types outer v from c cs access (inr own) = own.1
+
 -- Where an exception is raised before the component is freed, more is known than flow says.
 pub raises_less : (known : Known) (k : Control) (rooms : Rooms) (holds : Holds) (access : Option ℕ) → To ((ways known k rooms).raised ConstraintError) (behind_end known.program.variables access holds) → To ((ways known k rooms).raised ConstraintError) holds
 raises_less known k rooms holds access less =
@@ -187,7 +192,7 @@ module _ (known : Known) (heap : List Object) (places : List Value) where
         from = selected_kind types f.from c;
         access = f.access;
         is_from = λ p x names there. selected_access types f.from object c here ∙ of_access heap (component_access types object c) p x (component_is o object c w p refl found listed at names fit) there;
-        passes = passes_behind types f.from c (cs ++ d ∷ []) f.access f.passes;
+        passes = inl (passes_next types (outers known) v f.from c (cs ++ d ∷ []) f.access f.passes);
         of_type = f.of_type;
         frees_own = f.frees_own;
         own = f.own;

@@ -96,23 +96,6 @@ HoldersAreTold =
     → (reaches_holder implicit types t.0 ≡ false)
     ↔ ((holder c : ℕ) → HoldsNames types holder c t → implicit.end_reaches t.0 holder ≡ false)
 
--- The initialization of an object frees no object of its own access type, where it is of one (7.6, 13.11.2).
-abbrev pub start_spares : Implicit → (type_number : ℕ) → TypeForm → Bool
-start_spares implicit t (record_of name parts components finalization) = true
-start_spares implicit t (access_to name designated pool) = not (implicit.start_frees t t)
-start_spares implicit t (object_of record_type) = true
-
--- So it is with each of these types, from a number on.
-abbrev pub starts_spare : Implicit → (from : ℕ) → List TypeForm → Bool
-starts_spare implicit n [] = true
-starts_spare implicit n (t ∷ ts) = start_spares implicit n t && starts_spare implicit (suc n) ts
-
--- So it is in a program in which an Initialize may touch storage, and something creates an object with controlled parts.
-abbrev pub SparesStarts : Program → Type 0
-SparesStarts program =
-    let p = program_form program in
-    may_be_frugal p ≡ true → makes_parts p ≡ true → starts_spare (implicit_of p) 0 p.types ≡ true
-
 -- A program has passed all checks.
 pub record IsChecked (program : Program) : Type 0 where
   -- each number is that of something there, and each form has the types that it wants
@@ -135,8 +118,6 @@ pub record IsChecked (program : Program) : Type 0 where
   -- where a Finalize may touch storage, and something creates an object with controlled parts, no component of a record frees an object whose end reaches an
   -- access type whose objects have such a component (7.6.1)
   pub spares_holders : SparesHolders program
-  -- and the initialization of an object frees none of its own access type (7.6)
-  pub spares_starts : SparesStarts program
   -- the flow of values breaks no rule
   pub obeys : ObeysRules program
 
@@ -239,7 +220,6 @@ pub record Breaks (rule : Rule) (program : Program) : Type 0 where
   pub spares_own : SparesOwn program
   pub lets_nothing_out : LetsNothingOut (program_form program)
   pub spares_holders : SparesHolders program
-  pub spares_starts : SparesStarts program
   pub spot : Spot
   pub faults_there : program_flow program ≡ faults spot rule
 
@@ -252,7 +232,6 @@ pub record IsIllFormed (program : Program) : Type 0 where
   pub spares_own : SparesOwn program
   pub lets_nothing_out : LetsNothingOut (program_form program)
   pub spares_holders : SparesHolders program
-  pub spares_starts : SparesStarts program
   pub obeys : ObeysRules program
 
 -- The program has passed all other checks, but its collections do not nest.
@@ -264,7 +243,6 @@ pub record IsIllNested (program : Program) : Type 0 where
   pub spares_own : SparesOwn program
   pub lets_nothing_out : LetsNothingOut (program_form program)
   pub spares_holders : SparesHolders program
-  pub spares_starts : SparesStarts program
   pub obeys : ObeysRules program
 
 -- The program has passed all other checks, but it frees by an instance for another access type.
@@ -276,7 +254,6 @@ pub record FreesOthers (program : Program) : Type 0 where
   pub spares_own : SparesOwn program
   pub lets_nothing_out : LetsNothingOut (program_form program)
   pub spares_holders : SparesHolders program
-  pub spares_starts : SparesStarts program
   pub obeys : ObeysRules program
 
 -- The program is well formed, its collections nest, it frees by the instances for what it frees, and it obeys the rules, but something that overrides an
@@ -299,7 +276,6 @@ pub record LetsSomeOut (program : Program) : Type 0 where
   pub spares_own : SparesOwn program
   pub lets_some_out : LetsNothingOut (program_form program) → ⊥
   pub spares_holders : SparesHolders program
-  pub spares_starts : SparesStarts program
   pub obeys : ObeysRules program
 
 -- The program is well formed, whatever overrides an operation of a controlled type is in use, its collections nest, it frees by the instances for what it

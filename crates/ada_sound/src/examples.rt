@@ -498,7 +498,7 @@ pub fn adjusted_records_are_copied()
 /// body changes a record that is gone, or a component that is gone is to get its value back. And no component that owns
 /// what it names is handed over: else it names what a procedure frees that an exception leaves, and the handler follows it.
 ///
-/// So are the other premises, but for `SparesHolders` and `SparesStarts`: no program here shows it of either by itself. A variable relies
+/// So are the other premises, but for `SparesHolders`: no program here shows it of that by itself. A variable relies
 /// on values of its own access type alone: of a program that is not well formed, one of another type names what goes with a block.
 /// And components name what lasts as long as their objects: of a program whose collections do not nest, an object
 /// outlasts what its component names. And a Free is by the instance for the access type of what it frees (13.11.2): of
@@ -507,7 +507,7 @@ pub fn adjusted_records_are_copied()
 /// objects of a collection are finalized in any order (7.6.1), so a Finalize that frees what a component of its object
 /// names may find it gone, and finalizes it twice; that breaks S8, and not `SparesOwn` alone, but `SparesHolders`, too.
 /// And operations are in use: a newer collection goes before an older one, so a Finalize that only follows what a
-/// component of its object names there comes to an object that is gone; it keeps `SparesOwn`, `SparesHolders` and `SparesStarts`.
+/// component of its object names there comes to an object that is gone; it keeps `SparesOwn` and `SparesHolders`.
 /// And no exception comes out where a record is finalized (`LetsNothingOut`, S9): a record object whose Finalize raises
 /// `Constraint_Error`, and handles nothing, is finalized where the main procedure is left, and the exception would leave that
 /// Finalize (7.6.1), which is no safe end of a run.
@@ -602,7 +602,7 @@ pub fn rules_are_needed()
     ensures follows_gone { (program : Program)
         × (operations_of program.types.items 0 ≡ operation_examples.node_operations)
         × (body_forms program ≡ operation_examples.following_finalize ∷ []) × (stmt_forms program ≡ operation_examples.node_and_cell)
-        × always.NotInUse program × always.SparesOwn program × always.SparesHolders program × always.SparesStarts program
+        × always.NotInUse program × always.SparesOwn program × always.SparesHolders program
         × always.HaltsAfter operation_examples.following_events (Erroneous FollowsGone) program }
     ensures lets_out { (program : Program)
         × (operations_of program.types.items 0 ≡ operation_examples.escaping_operations)

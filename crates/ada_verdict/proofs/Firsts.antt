@@ -33,13 +33,13 @@ use Rattle.ada_flow.specs.declared.fault.FlowFault.{FlowFault}
 use Rattle.ada_flow.specs.declared.fault.FlowFault.TheVariants as flow
 use Rattle.ada_effects.specs.Effects.{Implicit}
 use Rattle.ada_text.specs.Exactly.{Exactly}
-use Rattle.ada_sound.specs.Always.{SparesHolders, SparesStarts, reaches_holder, starts_spare}
+use Rattle.ada_sound.specs.Always.{SparesHolders, reaches_holder}
 use Rattle.ada_verdict.specs.declared.fault.RoundFault.TheVariants as round
 use Rattle.ada_verdict.specs.declared.fault.UnusedFault.{UnusedFault}
 use Rattle.ada_verdict.specs.declared.fault.UnusedFault.TheVariants as unused
 use Rattle.ada_verdict.specs.declared.fault.Verdict.{Verdict}
 use Rattle.ada_verdict.specs.declared.fault.Verdict.TheVariants as verdict
-use Rattle.ada_verdict.specs.First.{IsSourceOf, IsProgramOf, IsAccepted, IsFirstIn, IsFirst, IsFirstUnused, IsFreedFirst, IsStarted, RefusesRightly, HasFaultOrProgram}
+use Rattle.ada_verdict.specs.First.{IsSourceOf, IsProgramOf, IsAccepted, IsFirstIn, IsFirst, IsFirstUnused, IsFreedFirst, RefusesRightly, HasFaultOrProgram}
 use Rattle.ada_verdict.specs.declared.rules.TheConstants as rules
 use Rattle.ada_verdict.specs.Refusal.{Told, told, rule_text, refusal_of}
 
@@ -181,20 +181,11 @@ no_early tokens text tree syntax source (verdict.Flow f) early b p a = absurd (c
 unused_obeys : (p : Program) (f : UnusedFault) → IsFirstUnused p f → ObeysRules p
 unused_obeys p (unused.Operation spot) first = first.0
 unused_obeys p (unused.Holder spot) first = first.0
-unused_obeys p (unused.Start spot) first = first.0
 unused_obeys p unused.NoMemory first = first
 
 -- In a program of this form no component of a record frees an object whose end reaches a type whose objects have such a component.
 abbrev SparesHoldersIn : ProgramForm → Type 0
 SparesHoldersIn p = may_be_frugal p ≡ true → makes_parts p ≡ true → text_frees_inside (reaches_holder (implicit_of p) p.types) p ≡ []
-
--- And the initialization of an object frees none of its own access type.
-abbrev SparesStartsIn : ProgramForm → Type 0
-SparesStartsIn p = may_be_frugal p ≡ true → makes_parts p ≡ true → starts_spare (implicit_of p) 0 p.types ≡ true
-
--- Programs that are alike spare alike.
-same_started : (p q : Program) → program_form p ≡ program_form q → SparesStarts p → SparesStarts q
-same_started p q same spares = subst SparesStartsIn same spares
 
 -- Where holders are spared, no component is freed first that does not spare one.
 no_freed : {X : Type 0} (p q : Program) (spot : Spot) → program_form p ≡ program_form q → IsFreedFirst (program_form p) spot → SparesHolders q → X
@@ -213,12 +204,6 @@ one_freed : (p q : ProgramForm) (spot other : Spot) → p ≡ q → IsFreedFirst
 one_freed p q spot other same a b text =
     let back = subst (λ (form : ProgramForm). IsFreedFirst form other) (sym same) b in
     ap (told_of text) (sym a.2 ∙ back.2)
-
--- One Initialize frees first.
-one_started : (p q : ProgramForm) (spot other : Spot) → p ≡ q → IsStarted p spot → IsStarted q other → (text : List ℕ) → told spot text ≡ told other text
-one_started p q spot other same a b text =
-    let back = subst (λ (form : ProgramForm). IsStarted form other) (sym same) b in
-    ap (λ (there : Spot). told there text) (a ∙ sym back)
 
 -- A later phase begins with a program.
 late_program : (source : List ℕ) (v : Verdict) → is_late v ≡ true → IsFirst source v → (p : Program) × IsProgramOf source p
@@ -314,8 +299,6 @@ no_first tokens text tree syntax source (verdict.Unused (unused.Operation spot))
     no_place HasUnused (program_form b.0) (program_form p) spot (one_program tokens tree source b.0 p b.1 a.0) b.2.2.1 a.1.3.0
 no_first tokens text tree syntax source (verdict.Unused (unused.Holder spot)) b p a =
     no_freed b.0 p spot (one_program tokens tree source b.0 p b.1 a.0) b.2.2.2 a.1.3.1
-no_first tokens text tree syntax source (verdict.Unused (unused.Start spot)) b p a =
-    absurd (b.2.2.2.1 (same_started p b.0 (one_program tokens tree source p b.0 a.0 b.1) a.1.3.2))
 no_first tokens text tree syntax source (verdict.Unused unused.NoMemory) b p a = refl
 no_first tokens text tree syntax source (verdict.Flow (flow.Broken spot rule)) b p a =
     obeys_none p spot rule (same_judgement p b.0 (one_program tokens tree source p b.0 a.0 b.1) ∙ b.2.2) a.1.2
@@ -386,20 +369,10 @@ late_one tokens tree source (verdict.Unused (unused.Operation spot)) (verdict.Un
     one_place HasUnused (program_form a.0) (program_form b.0) spot other (one_program tokens tree source a.0 b.0 a.1 b.1) a.2.2.1 b.2.2.1 rules.NOT_IN_PROFILE.now
 late_one tokens tree source (verdict.Unused (unused.Operation spot)) (verdict.Unused (unused.Holder other)) x y a b n m =
     no_place HasUnused (program_form a.0) (program_form b.0) spot (one_program tokens tree source a.0 b.0 a.1 b.1) a.2.2.1 b.2.2.1
-late_one tokens tree source (verdict.Unused (unused.Operation spot)) (verdict.Unused (unused.Start other)) x y a b n m =
-    no_place HasUnused (program_form a.0) (program_form b.0) spot (one_program tokens tree source a.0 b.0 a.1 b.1) a.2.2.1 b.2.2.1
 late_one tokens tree source (verdict.Unused (unused.Holder other)) (verdict.Unused (unused.Operation spot)) x y a b n m =
-    no_place HasUnused (program_form b.0) (program_form a.0) spot (one_program tokens tree source b.0 a.0 b.1 a.1) b.2.2.1 a.2.2.1
-late_one tokens tree source (verdict.Unused (unused.Start other)) (verdict.Unused (unused.Operation spot)) x y a b n m =
     no_place HasUnused (program_form b.0) (program_form a.0) spot (one_program tokens tree source b.0 a.0 b.1 a.1) b.2.2.1 a.2.2.1
 late_one tokens tree source (verdict.Unused (unused.Holder spot)) (verdict.Unused (unused.Holder other)) x y a b n m =
     one_freed (program_form a.0) (program_form b.0) spot other (one_program tokens tree source a.0 b.0 a.1 b.1) a.2.2.2 b.2.2.2 rules.NOT_IN_PROFILE.now
-late_one tokens tree source (verdict.Unused (unused.Holder spot)) (verdict.Unused (unused.Start other)) x y a b n m =
-    no_freed a.0 b.0 spot (one_program tokens tree source a.0 b.0 a.1 b.1) a.2.2.2 b.2.2.2.0
-late_one tokens tree source (verdict.Unused (unused.Start other)) (verdict.Unused (unused.Holder spot)) x y a b n m =
-    no_freed b.0 a.0 spot (one_program tokens tree source b.0 a.0 b.1 a.1) b.2.2.2 a.2.2.2.0
-late_one tokens tree source (verdict.Unused (unused.Start spot)) (verdict.Unused (unused.Start other)) x y a b n m =
-    one_started (program_form a.0) (program_form b.0) spot other (one_program tokens tree source a.0 b.0 a.1 b.1) a.2.2.2.2 b.2.2.2.2 rules.NOT_IN_PROFILE.now
 late_one tokens tree source (verdict.Unused f) (verdict.Flow (flow.Broken other rule)) x y a b n m =
     obeys_none a.0 other rule (same_judgement a.0 b.0 (one_program tokens tree source a.0 b.0 a.1 b.1) ∙ b.2.2) (unused_obeys a.0 f a.2.2)
 late_one tokens tree source (verdict.Flow f) (verdict.Operations (operations.Broken spot rule)) x y a b n m =

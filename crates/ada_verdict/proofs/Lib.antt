@@ -4,5 +4,3 @@ pub mod Firsts
 pub mod Spares
 -- the holders that ends reach
 pub mod SparedHolders
--- the initialization of objects, and steps inward
-pub mod SparedStarts

@@ -22,7 +22,7 @@ use Rattle.ada_resolve.specs.View.{Faults}
 use Rattle.ada_rounds.specs.FirstRound.{IsFirstRound}
 use Rattle.ada_flow.specs.Flow.{ObeysRules}
 use Rattle.ada_flow.specs.Told.{IsFirstFault as IsFirstFlowFault}
-use Rattle.ada_sound.specs.Always.{SparesHolders, SparesStarts, reaches_holder}
+use Rattle.ada_sound.specs.Always.{SparesHolders, reaches_holder}
 use Rattle.ada_verdict.specs.declared.fault.RoundFault.{RoundFault}
 use Rattle.ada_verdict.specs.declared.fault.RoundFault.TheVariants as round
 use Rattle.ada_verdict.specs.declared.fault.UnusedFault.{UnusedFault}
@@ -30,7 +30,6 @@ use Rattle.ada_verdict.specs.declared.fault.UnusedFault.TheVariants as unused
 use Rattle.ada_verdict.specs.declared.fault.Verdict.{Verdict}
 use Rattle.ada_verdict.specs.declared.fault.Verdict.TheVariants as verdict
 use Rattle.ada_verdict.specs.Refusal.{refusal_of}
-use Rattle.ada_verdict.specs.Starts.{or_start, started_spot}
 
 -- The source's tokens are those that the tree is written with (10.1.1).
 pub record IsSourceOf (source : List ℕ) (tree : UnitTree) : Type 0 where
@@ -54,10 +53,9 @@ OperationsObey program = IsFirstOf (program_form program) None
 
 -- Each operation is in use: Initialize is plain or, where it may be, frugal, Adjust is quiet, or, of a type that declares a component of an access type, simple,
 -- where it may track, and Finalize is quiet or, where it may be, frugal. And where one may touch storage, and something creates an object with controlled parts, no
--- component of a record frees an object whose end reaches an access type whose objects have such a component, and the initialization of an object frees none of its
--- own access type.
+-- component of a record frees an object whose end reaches an access type whose objects have such a component.
 abbrev pub OperationsAreInUse : Program → Type 0
-OperationsAreInUse program = IsFirstNotInUse (program_form program) None × SparesHolders program × SparesStarts program
+OperationsAreInUse program = IsFirstNotInUse (program_form program) None × SparesHolders program
 
 -- Nothing is wrong with a program, by the phases behind names: no Initialize and no Adjust calls itself, its operations obey their rules, it obeys the rules of
 -- flow, where what operations may do that are called implicitly counts, and its operations are in use.
@@ -83,23 +81,16 @@ abbrev pub IsFreedFirst : ProgramForm → Spot → Type 0
 IsFreedFirst p spot =
     (may_be_frugal p ≡ true) × (makes_parts p ≡ true) × (first_spot (text_frees_inside (reaches_holder (implicit_of p) p.types) p) ≡ Some spot)
 
--- Where the body begins that frees an object while one of the same access type begins.
-abbrev pub IsStarted : ProgramForm → Spot → Type 0
-IsStarted p spot = spot ≡ or_start (started_spot p (implicit_of p))
-
--- What an end or a beginning does not spare, first in a program: a holder of a component, or an object of the same access type.
+-- What an end does not spare, first in a program: a holder of a component.
 abbrev pub IsFirstUnspared : Program → UnusedFault → Type 0
 IsFirstUnspared program (unused.Operation spot) = ⊥
 IsFirstUnspared program (unused.Holder spot) = IsFreedFirst (program_form program) spot
-IsFirstUnspared program (unused.Start spot) = SparesHolders program × (SparesStarts program → ⊥) × IsStarted (program_form program) spot
 IsFirstUnspared program unused.NoMemory = Unit {0}
 
--- The first operation that is not in use, where the rules of flow are obeyed; or each is in use, but an end may not spare a holder of a component that is freed, or a
--- beginning may not spare objects of the same access type.
+-- The first operation that is not in use, where the rules of flow are obeyed; or each is in use, but an end may not spare a holder of a component that is freed.
 abbrev pub IsFirstUnused : Program → UnusedFault → Type 0
 IsFirstUnused program (unused.Operation spot) = ObeysRules program × IsFirstNotInUse (program_form program) (Some spot)
 IsFirstUnused program (unused.Holder spot) = ObeysRules program × IsFirstNotInUse (program_form program) None × IsFirstUnspared program (unused.Holder spot)
-IsFirstUnused program (unused.Start spot) = ObeysRules program × IsFirstNotInUse (program_form program) None × IsFirstUnspared program (unused.Start spot)
 IsFirstUnused program unused.NoMemory = ObeysRules program
 
 -- The first fault of a program, behind names: that of the first phase that has one.

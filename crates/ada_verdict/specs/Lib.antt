@@ -4,7 +4,5 @@
 pub mod Refusal
 -- a refusal as it is lent
 pub mod Shown
--- where an Initialize begins that frees
-pub mod Starts
 -- the program of a source, and its first fault
 pub mod First

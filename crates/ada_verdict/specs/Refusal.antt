@@ -82,7 +82,6 @@ operation_told operations.NoMemory = None
 abbrev pub unused_told : UnusedFault → Option Told
 unused_told (unused.Operation spot) = told spot rules.NOT_IN_PROFILE.now
 unused_told (unused.Holder spot) = told spot rules.NOT_IN_PROFILE.now
-unused_told (unused.Start spot) = told spot rules.NOT_IN_PROFILE.now
 unused_told unused.NoMemory = None
 
 -- The rules of the flow of values.

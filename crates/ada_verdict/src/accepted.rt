@@ -11,14 +11,13 @@ ghost use Rattle.ada_program.specs.Nested.{CollectionsNest};
 ghost use Rattle.ada_program.specs.ProgramForm.{program_form};
 ghost use Rattle.ada_program.specs.WellFormed.{IsWellFormed};
 ghost use Rattle.ada_quiet.specs.InUse.{operations_are_in_use};
-ghost use Rattle.ada_sound.specs.Always.{IsChecked, SparesHolders, SparesStarts};
+ghost use Rattle.ada_sound.specs.Always.{IsChecked, SparesHolders};
 ghost use Rattle.ada_tree.specs.StatementView.{unit_of};
 ghost use Rattle.ada_verdict.specs.First.{HasNoFault, IsAccepted, IsFirst, IsFirstCircling, IsFirstIn, IsFirstUnspared, IsFirstUnused, IsProgramOf, IsSourceOf, NoneCallsItself, OperationsAreInUse, RefusesRightly};
 
 use crate::fault::{RoundFault, UnusedFault, Verdict};
 use crate::holders::reaching_holders;
 use crate::laws::accepted_sources_have_no_fault;
-use crate::starts::{first_unspared, freeing_spot};
 use ada_effects::Implicit;
 use ada_flow::{FlowFault, flow};
 use ada_operations::laws::{ends_spare_their_own, obeying_propagates_nothing};
@@ -114,7 +113,6 @@ fn judge(alloc: Global, program: &Program) -> Result<(), Verdict>
     ensures fine { IfOk result (λ _. HasNoFault program.now) }
     ensures in_use { IfOk result (λ _. operations_are_in_use (program_form program.now) ≡ true) }
     ensures holders { IfOk result (λ _. SparesHolders program.now) }
-    ensures starts { IfOk result (λ _. SparesStarts program.now) }
     ensures refused { IfErr result (λ verdict. IsFirstIn program.now verdict) }
 {
     shun_rounds(alloc, program)?;
@@ -153,10 +151,10 @@ fn obey(alloc: Global, program: &Program, implicit: &Implicit) -> Result<(), Flo
 /// Each operation is in use: Initialize is plain or, where it may be, frugal, Adjust is quiet, or, of a type that declares a component
 /// of an access type, simple, where it may track, and Finalize is quiet or, where it may be, frugal. And where one may touch storage, and
 /// something creates an object with controlled parts, no component of a record frees an object whose end reaches an access type whose
-/// objects have such a component, and the initialization of an object frees none of its own access type.
+/// objects have such a component.
 ///
 /// # Errors
-/// The first one that is not, the first such component, or the Initialize that may free such objects, or want of memory.
+/// The first one that is not, or the first such component, or want of memory.
 fn use_all(alloc: Global, program: &Program, implicit: &Implicit) -> Result<(), UnusedFault>
     requires obeys { ObeysRules program.now }
     requires known { implicit_in implicit.now ≡ implicit_of (program_form program.now) }
@@ -166,31 +164,27 @@ fn use_all(alloc: Global, program: &Program, implicit: &Implicit) -> Result<(), 
 {
     match first_unused(alloc, program)? {
         Some(spot) => Err(UnusedFault::Operation(spot)),
-        None => spare_all(alloc, program, implicit),
+        None => spare_holders(alloc, program, implicit),
     }
 }
 
 /// Where operations may touch storage, and something creates an object with controlled parts, ends spare the holders of the components that
-/// are freed, and beginnings the objects of the same access type.
+/// are freed.
 ///
 /// # Errors
-/// Where the first component is freed that does not, or where the Initialize begins that does not, or want of memory.
-fn spare_all(alloc: Global, program: &Program, implicit: &Implicit) -> Result<(), UnusedFault>
+/// Where the first component is freed whose end does not, or want of memory.
+fn spare_holders(alloc: Global, program: &Program, implicit: &Implicit) -> Result<(), UnusedFault>
     requires { implicit_in implicit.now ≡ implicit_of (program_form program.now) }
     ensures holders { IfOk result (λ _. SparesHolders program.now) }
-    ensures starts { IfOk result (λ _. SparesStarts program.now) }
     ensures refused { IfErr result (λ fault. IsFirstUnspared program.now fault) }
 {
     if !makes_parts(program) || !may_be_frugal(alloc, program)? {
         return Ok(());
     }
     let asked = reaching_holders(alloc, &program.types, implicit)?;
-    if let Some(spot) = first_freed_inside(program, &asked) {
-        return Err(UnusedFault::Holder(spot));
-    }
-    match first_unspared(&program.types, implicit) {
+    match first_freed_inside(program, &asked) {
+        Some(spot) => Err(UnusedFault::Holder(spot)),
         None => Ok(()),
-        Some(access) => Err(UnusedFault::Start(freeing_spot(program, implicit, access))),
     }
 }
 

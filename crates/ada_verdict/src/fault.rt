@@ -40,9 +40,6 @@ pub enum UnusedFault {
     /// Each operation is in use, but a Finalize may touch storage, something creates an object with controlled parts, and a component of a
     /// record is freed here, whose object's end may reach an allocated object in which such a component lies (13.11.2).
     Holder(Spot),
-    /// No such component is freed, but the initialization of an object may free one of its own access type (7.6): in an Initialize
-    /// whose body begins here.
-    Start(Spot),
     NoMemory,
 }
 

@@ -17,7 +17,7 @@ use ada_quiet::mark;
 use std::alloc::{AllocError, Global};
 
 /// Whether a number is that of one of these types. Costs their number.
-pub(crate) fn has_number(types: &[TypeNo], number: usize) -> bool
+fn has_number(types: &[TypeNo], number: usize) -> bool
     ensures { result ≡ has_number types.now number }
 {
     types.iter().any(|one| one.0 == number)

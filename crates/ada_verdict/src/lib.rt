@@ -14,7 +14,6 @@ mod holders;
 pub mod laws;
 mod refusal;
 pub mod rules;
-mod starts;
 
 pub use crate::accepted::{Accepted, check};
 pub use crate::fault::Verdict;

@@ -101,7 +101,6 @@ fn unused_refusal(fault: &UnusedFault) -> Option<Refusal>
     match fault {
         UnusedFault::Operation(spot) => refused(*spot, rules::NOT_IN_PROFILE),
         UnusedFault::Holder(spot) => refused(*spot, rules::NOT_IN_PROFILE),
-        UnusedFault::Start(spot) => refused(*spot, rules::NOT_IN_PROFILE),
         UnusedFault::NoMemory => None,
     }
 }

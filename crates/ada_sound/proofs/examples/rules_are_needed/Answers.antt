@@ -139,7 +139,6 @@ returns-clause-follows_gone c = (
   operations.following_not_in_use,
   operations.following_spares,
   operations.following_spares_holders,
-  operations.following_spares_starts,
   operations.follows_gone,
 )
 

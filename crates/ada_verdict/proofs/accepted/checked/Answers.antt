@@ -21,7 +21,6 @@ invariant_of-result c = record {
   lets_nothing_out = none_called (program_form c.in_ok-program.program)
       (c.obeying_propagates_nothing.ensures (program_form c.in_ok-program.program) c.in_ok-judge.ensures.fine.1);
   spares_holders = c.in_ok-judge.ensures.holders;
-  spares_starts = c.in_ok-judge.ensures.starts;
   obeys = c.in_ok-judge.ensures.fine.2;
 }
 
@@ -35,6 +34,5 @@ returns-clause-sound c = record {
   lets_nothing_out = none_called (program_form c.in_ok-program.program)
       (c.obeying_propagates_nothing.ensures (program_form c.in_ok-program.program) c.in_ok-judge.ensures.fine.1);
   spares_holders = c.in_ok-judge.ensures.holders;
-  spares_starts = c.in_ok-judge.ensures.starts;
   obeys = c.in_ok-judge.ensures.fine.2;
 }
