@@ -32,7 +32,7 @@ use Rattle.ada_scopes.proofs.Texts.{StatementNests, BodiesNest}
 use Rattle.ada_scopes.specs.Scopes.{is_departure}
 use Rattle.ada_scopes.proofs.Counts.{Scopes, scopes}
 use Rattle.ada_scopes.proofs.Treatments.{IsTreatment, TreatsFirst}
-use Rattle.ada_scopes.proofs.Control.{FrameNests, Nests, Nested, standing, beginning, parting}
+use Rattle.ada_scopes.proofs.Control.{FrameNests, Nests, Nested, standing, beginning, parting, resting}
 use Rattle.ada_anywhere.specs.Anywhere.{some_waits, has_master}
 use Rattle.ada_anywhere.proofs.Control.{InnermostOwnsNone, outside, StatementsAnywhere, BranchesAnywhere, HandlersAnywhere, FrameAnywhere, Anywhere, Here, part_anywhere, body_anywhere, treating_anywhere, owning_anywhere, behind_owning, master_owns_none}
 use Rattle.ada_anywhere.proofs.Evaluations.{Good, path_good, holder_good, record_holder_good, refers_good, open_good, opens_good, expression_good, null_test_good, links_good, outcome_good, items_good, copies_good, record_target_good, store_record_good, record_assign_good, assigns_good, new_good, right_good, free_good, free_in_good, end_good, back_good}
@@ -376,27 +376,28 @@ module _ (types : List TypeForm) (callees : Callees) (bodies : List BodyForm) (n
   frame_stays calling ss vs (frame.Leaves mode) nest = absurd nest
   frame_stays calling ss vs f nest = refl
 
-  control_stays : (calling : Bool) (ss vs : Scopes) (k : List (Frame Value)) → Nests types callees calling ss vs k → LeavesNone k
-  control_stays calling ss vs [] n = tt
-  control_stays calling ss vs (f ∷ k) n = frame_stays calling ss vs f n.0
+  control_stays : (main : List ℕ) (calling : Bool) (ss vs : Scopes) (k : List (Frame Value)) → Nests types callees main calling ss vs k → LeavesNone k
+  control_stays main calling ss vs [] n = tt
+  control_stays main calling ss vs (f ∷ k) n = frame_stays calling ss vs f n.0
 
-  stays_in : (calling : Bool) (s : State) → Jumps s.mode → Nested types callees calling s → LeavesNone s.control
-  stays_in calling s jumps (standing ss w n) = control_stays calling ss (scopes s.masters) s.control n
-  stays_in calling s jumps (beginning b) = absurd (subst Jumps b.runs jumps)
-  stays_in calling s jumps (parting ss w runs goes) = absurd (subst Jumps runs jumps)
+  stays_in : (main : List ℕ) (calling : Bool) (s : State) → Jumps s.mode → Nested types callees main calling s → LeavesNone s.control
+  stays_in main calling s jumps (standing ss w n) = control_stays main calling ss (scopes s.masters) s.control n
+  stays_in main calling s jumps (beginning b) = absurd (subst Jumps b.runs jumps)
+  stays_in main calling s jumps (parting ss w runs goes) = absurd (subst Jumps runs jumps)
+  stays_in main calling s jumps (resting ss w none ends) = subst LeavesNone (sym ends) tt
 
-  module _ (definitions : List TypeDefinition) (calling : Bool) where
+  module _ (definitions : List TypeDefinition) (main : List ℕ) (calling : Bool) where
     running_good : (k : List (Frame Value)) → (TreatsFirst k → OperationsHere callees definitions) → (s : State) → Anywhere types callees k s.masters → Good types callees (running_next named definitions bodies k s)
     running_good [] operations s h = tt
     running_good (f ∷ k) operations s h = frame_good definitions f operations (at k s) h.0 h.1
 
-    mode_good : (mode : Mode) (s : State) → (TreatsFirst s.control → OperationsHere callees definitions) → s.mode ≡ mode → Nested types callees calling s → Here types callees s → Good types callees (mode_next named definitions bodies mode s)
+    mode_good : (mode : Mode) (s : State) → (TreatsFirst s.control → OperationsHere callees definitions) → s.mode ≡ mode → Nested types callees main calling s → Here types callees s → Good types callees (mode_next named definitions bodies mode s)
     mode_good Running s operations is nested h = running_good s.control operations s h
-    mode_good (Raising e) s operations is nested h = jump_good (Raising e) s.control s (stays_in calling s (subst Jumps (sym is) tt) nested) h
-    mode_good Exiting s operations is nested h = jump_good Exiting s.control s (stays_in calling s (subst Jumps (sym is) tt) nested) h
-    mode_good Returning s operations is nested h = jump_good Returning s.control s (stays_in calling s (subst Jumps (sym is) tt) nested) h
+    mode_good (Raising e) s operations is nested h = jump_good (Raising e) s.control s (stays_in main calling s (subst Jumps (sym is) tt) nested) h
+    mode_good Exiting s operations is nested h = jump_good Exiting s.control s (stays_in main calling s (subst Jumps (sym is) tt) nested) h
+    mode_good Returning s operations is nested h = jump_good Returning s.control s (stays_in main calling s (subst Jumps (sym is) tt) nested) h
 
     -- A step of a state that nests keeps that, if operations nest where a treatment is what is done next.
-    pub next_good : (s : State) → (TreatsFirst s.control → OperationsHere callees definitions) → Nested types callees calling s → Here types callees s → Good types callees (next definitions bodies s)
+    pub next_good : (s : State) → (TreatsFirst s.control → OperationsHere callees definitions) → Nested types callees main calling s → Here types callees s → Good types callees (next definitions bodies s)
     unfolding next
     next_good s operations nested h = mode_good s.mode s operations refl nested h

@@ -1,5 +1,5 @@
 -- The masters that were entered since the outermost operation of a controlled type that runs was called (7.6, 7.6.1): in every run of a program whose
--- operations nest they own no collection.
+-- operations nest anywhere they own no collection.
 
 use Rattle.std.specs.Prelude.{◌≡◌, ℕ, suc, Bool, true, false, ◌||◌, List, [], ◌∷◌, take, None, All}
 use Rattle.ada_meaning.specs.declared.state.Value.{Value}
@@ -7,7 +7,7 @@ use Rattle.ada_meaning.specs.Frame.{Frame, is_master}
 use Rattle.ada_meaning.specs.Frame as frame
 use Rattle.ada_meaning.specs.Named.{State}
 use Rattle.ada_meaning.specs.State.{Master}
-use Rattle.ada_scopes.specs.Scopes.{InItsRuns, WhereCollectionsNest, type_collected, is_departure}
+use Rattle.ada_scopes.specs.Scopes.{InItsRuns, WhereOperationsNestAnywhere, type_collected, is_departure}
 
 -- Does this frame wait for an operation: for the Initialize or Adjust that begins a part (7.6), or for a Finalize (7.6.1)?
 abbrev pub waits : Frame Value → Bool
@@ -46,4 +46,4 @@ OwnNoCollectionSince s = All OwnsNoCollection (take (entered_since s.control) s.
 
 -- While an operation runs, its body, the blocks in it and the procedures that it calls create no collection (7.6, 7.6.1).
 abbrev pub OperationsCollectNothing : Type 0
-OperationsCollectNothing = WhereCollectionsNest (λ program. InItsRuns program OwnNoCollectionSince)
+OperationsCollectNothing = WhereOperationsNestAnywhere (λ program. InItsRuns program OwnNoCollectionSince)

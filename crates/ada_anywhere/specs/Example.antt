@@ -8,7 +8,7 @@ use Rattle.ada_program.specs.Nested.{CollectionsNest}
 use Rattle.ada_meaning.specs.Named.{State}
 use Rattle.ada_meaning.specs.State.{Master}
 use Rattle.ada_order.specs.Example.{InSomeRun}
-use Rattle.ada_scopes.specs.Scopes.{OperationsNest}
+use Rattle.ada_scopes.specs.Scopes.{OperationsNestAnywhere}
 use Rattle.ada_anywhere.specs.Anywhere.{entered_since, OwnsNoCollection}
 
 -- The body of an operation is entered, while the main procedure, in which it is called, owns a collection (7.6.1).
@@ -19,8 +19,8 @@ pub record RunsWhileCollected (s : State) : Type 0 where
   pub since : entered_since s.control ≡ 1
   pub collects : OwnsNoCollection main → ⊥
 
--- A well-formed program whose collections and operations nest has a run that comes to such masters (7.6.1).
+-- A well-formed program whose collections nest, and whose operations nest anywhere, has a run that comes to such masters (7.6.1).
 abbrev pub PremisesAreMet : Type 0
 PremisesAreMet =
     (program : Program) × IsWellFormed (program_form program) × CollectionsNest (program_form program)
-    × OperationsNest (program_form program) × InSomeRun program (λ events last. RunsWhileCollected last)
+    × OperationsNestAnywhere (program_form program) × InSomeRun program (λ events last. RunsWhileCollected last)

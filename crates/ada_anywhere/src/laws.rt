@@ -1,4 +1,4 @@
-//! The laws of operations that nest. Each is a function that does nothing, and whose contract is the theorem.
+//! The laws of operations that nest anywhere. Each is a function that does nothing, and whose contract is the theorem.
 
 ghost use Rattle.ada_anywhere.specs.Anywhere.{OperationsCollectNothing};
 ghost use Rattle.ada_anywhere.specs.Example.{PremisesAreMet};

@@ -22,7 +22,7 @@ use Rattle.ada_meaning.specs.Named.{next}
 use Rattle.ada_meaning.specs.Run.{takes}
 use Rattle.ada_order.specs.Example.{InSomeRun}
 use Rattle.ada_order.proofs.Choices.{run_by}
-use Rattle.ada_scopes.specs.Scopes.{OperationsNest}
+use Rattle.ada_scopes.specs.Scopes.{OperationsNestAnywhere}
 use Rattle.ada_scopes.proofs.Example.{steps, vec, no_name, access_kind, cell_of, access_to, creations_with, no_pools}
 use Rattle.ada_scopes.proofs.ShortExample.{known_by}
 use Rattle.ada_outlived.specs.Example.{EndsObject}
@@ -116,7 +116,7 @@ nests = record {
 finalize_nests : (around : List ℕ) → call_nests (slice_get (callees_from (program_form program).types [] (body_forms program)) 0) around ≡ true
 finalize_nests around = of_both (λ bs fs. call_nests (slice_get (callees_from (program_form program).types [] bs) 0) around) refl
 
-pub operations_nest : OperationsNest (program_form program)
+pub operations_nest : OperationsNestAnywhere (program_form program)
 operations_nest zero = (tt, tt, finalize_nests)
 operations_nest (suc zero) = (tt, tt, tt)
 operations_nest (suc (suc zero)) = (tt, tt, tt)

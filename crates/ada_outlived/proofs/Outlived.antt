@@ -15,7 +15,7 @@ use Rattle.ada_order.proofs.Orders.{kept_first, run_keeps}
 use Rattle.ada_scopes.specs.Scopes.{is_number_of, is_declared_object, lasting, IsOpenIn, HoldsNames}
 use Rattle.ada_scopes.proofs.Counts.{one, times, times_append, target_open, opened_by, opened, scopes, all_of, opened_all}
 use Rattle.ada_scopes.proofs.Layers.{Bare, Layered, AllLayered, bare_layered}
-use Rattle.ada_scopes.proofs.Control.{RecordNeeds, RecordsNeed, Nested, standing, beginning, parting}
+use Rattle.ada_scopes.proofs.Control.{RecordNeeds, RecordsNeed, Nested, standing, beginning, parting, resting}
 use Rattle.ada_outlived.specs.Outlived.{AreRecordsOutlived, RecordsAreOutlived, IsOpenBelow, AreRecordsNewer, RecordsAreNewer}
 use Rattle.ada_outlived.proofs.Records.{NeedNow}
 use Rattle.ada_outlived.proofs.Runs.{Outlives, state_outlives}
@@ -177,14 +177,15 @@ module _ (types : List TypeForm) (i : Item) (t c : ℕ) (target : TypeNo) (own :
 pub records_outlived : (p : ProgramForm) (s : State) → Outlives p s → AreRecordsOutlived p.types s
 records_outlived p s h i t c target at own names = open_in target.0 (lasting i.number s.masters) (open_at p.types i t c target own names s.masters at h.keeps.0)
 
-layers_of : (types : List TypeForm) (callees : Callees) (calling : Bool) (s : State) → Nested types callees calling s → AllLayered s.masters
-layers_of types callees calling s (standing ss w n) = w.layered
-layers_of types callees calling s (beginning b) = subst AllLayered (sym b.masters) (bare_layered b.m.items b.growing.bare, b.growing.layered)
-layers_of types callees calling s (parting ss w runs goes) = w.layered
+layers_of : (types : List TypeForm) (callees : Callees) (main : List ℕ) (calling : Bool) (s : State) → Nested types callees main calling s → AllLayered s.masters
+layers_of types callees main calling s (standing ss w n) = w.layered
+layers_of types callees main calling s (beginning b) = subst AllLayered (sym b.masters) (bare_layered b.m.items b.growing.bare, b.growing.layered)
+layers_of types callees main calling s (parting ss w runs goes) = w.layered
+layers_of types callees main calling s (resting ss w none ends) = w.layered
 
 pub records_newer : (p : ProgramForm) (s : State) → Outlives p s → Counted (items_of s.masters) → AreRecordsNewer p.types s
 records_newer p s h counted i t c target at own names =
-    below_in p.types i t c target own names s.masters at (layers_of p.types (callees_of p) _ s h.scoped.nested) counted h.keeps.0
+    below_in p.types i t c target own names s.masters at (layers_of p.types (callees_of p) _ _ s h.scoped.nested) counted h.keeps.0
 
 -- Over runs.
 pub outlived : RecordsAreOutlived

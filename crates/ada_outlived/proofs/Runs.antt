@@ -8,8 +8,8 @@ use Rattle.ada_program.specs.Nested.{callees_of, CollectionsNest}
 use Rattle.ada_meaning.specs.Named.{State, next}
 use Rattle.ada_meaning.specs.Run.{Event, Choice, Step, Run, here, there, first_state}
 use Rattle.ada_order.proofs.Controls.{led}
-use Rattle.ada_scopes.specs.Scopes.{OperationsNest}
-use Rattle.ada_scopes.proofs.Operations.{operations_here}
+use Rattle.ada_scopes.specs.Scopes.{OperationsNestAnywhere}
+use Rattle.ada_scopes.proofs.Operations.{operations_here, anywhere_nests}
 use Rattle.ada_scopes.proofs.Treatments.{TreatsFirst}
 use Rattle.ada_scopes.proofs.Runs.{Scoped, first_nested, step_nested}
 use Rattle.ada_outlived.proofs.Control.{Keeps}
@@ -28,23 +28,23 @@ first_outlives program well nest input = record {
   keeps = ((tt, tt), ((λ within. absurd (cc within)), tt));
 }
 
--- A step keeps that, if operations nest where a treatment is what is done next.
-pub step_outlives : (program : Program) (s after : State) (choice : Choice) (e : Event) → (TreatsFirst s.control → OperationsNest (program_form program)) → Outlives (program_form program) s → Step program s choice e after → Outlives (program_form program) after
+-- A step keeps that, if operations nest anywhere where a treatment is what is done next.
+pub step_outlives : (program : Program) (s after : State) (choice : Choice) (e : Event) → (TreatsFirst s.control → OperationsNestAnywhere (program_form program)) → Outlives (program_form program) s → Step program s choice e after → Outlives (program_form program) after
 step_outlives program s after choice e operations h step =
     let p = program_form program in
     let types = program.types.items in
     record {
-      scoped = step_nested program s after choice e operations h.scoped step;
+      scoped = step_nested program s after choice e (λ first. anywhere_nests (program_form program) (operations first)) h.scoped step;
       keeps = (led (λ told event state. Keeps p.types (callees_of p) state) (next types p.bodies s) choice e after
           (next_good p.types (callees_of p) p.bodies h.scoped.bodies types s (λ first of. operations_here (callees_of p) types of (operations first))
           (λ f rest runs top. is_ready p s h.scoped h.keeps.1 f rest top) h.keeps) step).1;
     }
 
-run_outlives : (program : Program) (s last : State) (events : List Event) → OperationsNest (program_form program) → Outlives (program_form program) s → Run program s events last → Outlives (program_form program) last
+run_outlives : (program : Program) (s last : State) (events : List Event) → OperationsNestAnywhere (program_form program) → Outlives (program_form program) s → Run program s events last → Outlives (program_form program) last
 run_outlives program s last events operations h here = h
 run_outlives program s last (e ∷ events) operations h (there choice mid step rest) =
     run_outlives program mid last events operations (step_outlives program s mid choice e (λ first. operations) h step) rest
 
-pub state_outlives : (program : Program) → IsWellFormed (program_form program) → CollectionsNest (program_form program) → OperationsNest (program_form program) → (input : List ℤ) (events : List Event) (last : State) → Run program (first_state program input) events last → Outlives (program_form program) last
+pub state_outlives : (program : Program) → IsWellFormed (program_form program) → CollectionsNest (program_form program) → OperationsNestAnywhere (program_form program) → (input : List ℤ) (events : List Event) (last : State) → Run program (first_state program input) events last → Outlives (program_form program) last
 state_outlives program well nest operations input events last run =
     run_outlives program (first_state program input) last events operations (first_outlives program well nest input) run

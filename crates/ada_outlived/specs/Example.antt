@@ -10,7 +10,7 @@ use Rattle.ada_meaning.specs.declared.state.Id.{Id}
 use Rattle.ada_meaning.specs.State.{record_object, Item, Master}
 use Rattle.ada_meaning.specs.Named.{Object, State, object_at}
 use Rattle.ada_order.specs.Example.{InSomeRun}
-use Rattle.ada_scopes.specs.Scopes.{OperationsNest, IsOpenIn, departures, HoldsNames}
+use Rattle.ada_scopes.specs.Scopes.{OperationsNestAnywhere, IsOpenIn, departures, HoldsNames}
 
 -- The main procedure is being left, and the body of a Finalize runs. A record object of the main procedure has left its collection, while its item is there,
 -- and so is the collection of what its component names.
@@ -33,8 +33,8 @@ pub record EndsObject (program : Program) (s : State) : Type 0 where
   pub unlisted : object.listed ≡ false
   pub near_is_open : IsOpenIn (main ∷ []) target.0
 
--- A well-formed program whose collections and operations nest has a run that comes to such an object.
+-- A well-formed program whose collections nest, and whose operations nest anywhere, has a run that comes to such an object.
 abbrev pub ObjectsEndInside : Type 0
 ObjectsEndInside =
     (program : Program) × IsWellFormed (program_form program) × CollectionsNest (program_form program)
-    × OperationsNest (program_form program) × InSomeRun program (λ events last. EndsObject program last)
+    × OperationsNestAnywhere (program_form program) × InSomeRun program (λ events last. EndsObject program last)

@@ -1,26 +1,51 @@
 -- Procedures that are frugal have frugal bodies, by what is known of all procedures: what is known of the first ones stays known.
 
 use Rattle.std.proofs.Common.{◌≡◌, ℕ, zero, suc, Bool, true, false, ◌&&◌, List, [], ◌∷◌, ◌++◌, length, ◌+◌, ◌<◌, Some, None, refl, sym, ap, ◌∙◌, subst, arith}
-use Rattle.std.specs.Prelude.{not, is_some}
+use Rattle.std.specs.Prelude.{not, is_some, Option}
 use Rattle.std.specs.List.{list_all, slice_get, slice_index_or}
 use Rattle.ada_program.specs.Form.{RecordPathForm, ItemForm, RightForm, nothing, value_of, allocates, allocates_default, computes, StmtForm, skips, assigns, assigns_record, frees, gets, writes, writes_text, chooses, repeats, counts, exits, calls, returns, raises, encloses, StmtsForm, no_stmts, a_stmt, BranchesForm, otherwise, a_branch, HandlersForm, no_handlers, a_handler, DeclarationForm, creates_pool, collects, declares, declares_record}
+use Rattle.ada_program.specs.declared.program.ComponentKind.{ComponentKind}
+use Rattle.ada_program.specs.declared.program.ComponentKind.TheVariants as component
+use Rattle.ada_program.specs.Nested.{collected, is_one_of, kind_is_open, are_open, record_nests}
 use Rattle.ada_program.specs.ProgramForm.{TypeForm, BodyForm, ProgramForm}
-use Rattle.ada_program.specs.WellFormed.{finalization_of}
+use Rattle.ada_program.specs.WellFormed.{finalization_of, reached_components}
 use Rattle.ada_quiet.specs.Apart.{is_bare_item}
 use Rattle.ada_quiet.specs.Bare.{has_bare_objects}
-use Rattle.ada_quiet.specs.Frugal.{Thrift, allocates_frugally, holds_scalars, is_frugal_declaration, are_frugal_declarations, is_frugal_stmt, are_frugal, are_frugal_branches, are_frugal_handlers, is_frugal_body, frugal_from, frugal_procedures, thrift_of}
+use Rattle.ada_quiet.specs.Frugal.{Thrift, allocates_frugally, is_frugal_declaration, are_frugal_declarations, is_frugal_stmt, are_frugal, are_frugal_branches, are_frugal_handlers, is_frugal_body, frugal_from, frugal_procedures, thrift_of}
 use Rattle.ada_quiet.proofs.InUse.{others}
 
 -- All that one list tells to be frugal the other one tells, too.
 abbrev pub TellsMore : (less more : List Bool) → Type 0
 TellsMore less more = (n : ℕ) → slice_index_or less n false ≡ true → slice_index_or more n false ≡ true
 
--- What frugal bodies go by, where this is known of procedures.
-abbrev pub by : List TypeForm → (frugal : List Bool) → Thrift
-by types frugal = record { types = types; procedures = frugal }
+-- All access types of one list are in the other one, too.
+abbrev pub OpensMore : (less more : List ℕ) → Type 0
+OpensMore less more = (t : ℕ) → is_one_of less t ≡ true → is_one_of more t ≡ true
 
--- What is frugal by the one is so by the other, which knows at least the same procedures.
-module _ (one other : Thrift) (same : one.types ≡ other.types) (tells : TellsMore one.procedures other.procedures) where
+-- What frugal bodies go by, where these access types are outermost, and this is known of procedures.
+abbrev pub by : List TypeForm → (outermost : List ℕ) → (frugal : List Bool) → Thrift
+by types outermost frugal = record { types = types; outermost = outermost; procedures = frugal }
+
+-- What names objects of the collections of one list alone does so of the other one.
+module _ (less more : List ℕ) (opens : OpensMore less more) where
+  kind_more : (kind : ComponentKind) → kind_is_open less kind ≡ true → kind_is_open more kind ≡ true
+  kind_more (component.Integer initial) h = refl
+  kind_more (component.Boolean initial) h = refl
+  kind_more (component.Access access) h = opens access.0 h
+
+  kinds_more : (kinds : List ComponentKind) → list_all (kind_is_open less) kinds ≡ true → list_all (kind_is_open more) kinds ≡ true
+  kinds_more [] h = refl
+  kinds_more (kind ∷ kinds) h =
+      others (kind_is_open less kind) (list_all (kind_is_open less) kinds) (kind_is_open more kind) (list_all (kind_is_open more) kinds)
+      (kind_more kind) (kinds_more kinds) h
+
+  reached_more : (reached : Option (List ComponentKind)) → are_open less reached ≡ true → are_open more reached ≡ true
+  reached_more None h = refl
+  reached_more (Some kinds) h = kinds_more kinds h
+
+-- What is frugal by the one is so by the other, which knows at least the same outermost access types and procedures.
+module _ (one other : Thrift) (same : one.types ≡ other.types) (opens : OpensMore one.outermost other.outermost)
+    (tells : TellsMore one.procedures other.procedures) where
   -- What is asked of types holds of the same types.
   bare_more : (t : ℕ) → has_bare_objects one.types t ≡ has_bare_objects other.types t
   bare_more t = ap (λ (types : List TypeForm). has_bare_objects types t) same
@@ -36,7 +61,9 @@ module _ (one other : Thrift) (same : one.types ≡ other.types) (tells : TellsM
   declaration_more (creates_pool p) h = h
   declaration_more (collects access) h = h
   declaration_more (declares x right) h = right_more right h
-  declaration_more (declares_record x t None) h = ap (λ (types : List TypeForm). holds_scalars types t) (sym same) ∙ h
+  declaration_more (declares_record x t None) h =
+      ap (λ (types : List TypeForm). record_nests types other.outermost t) (sym same)
+      ∙ reached_more one.outermost other.outermost opens (reached_components one.types t) h
   declaration_more (declares_record x t (Some items)) h = h
 
   declarations_more : (ds : List DeclarationForm) → are_frugal_declarations one ds ≡ true → are_frugal_declarations other ds ≡ true
@@ -100,11 +127,6 @@ append_more [] ys n h = absurd (cc h)
 append_more (x ∷ xs) ys zero h = h
 append_more (x ∷ xs) ys (suc n) h = append_more xs ys n h
 
-pub from_more : (types : List TypeForm) (known : List Bool) (bs : List BodyForm) → TellsMore known (frugal_from types known bs)
-from_more types known [] n h = h
-from_more types known (b ∷ bs) n h =
-    from_more types (known ++ is_frugal_body (by types known) b ∷ []) bs n (append_more known (is_frugal_body (by types known) b ∷ []) n h)
-
 -- What is told of the first procedures is told of them later, too.
 append_keeps : (xs ys : List Bool) (n : ℕ) → n < length xs → slice_index_or (xs ++ ys) n false ≡ slice_index_or xs n false
 append_keeps [] ys n less = absurd (omega (arith, less))
@@ -119,32 +141,62 @@ pub append_length : (xs : List Bool) (x : Bool) → length (xs ++ x ∷ []) ≡ 
 append_length [] x = refl
 append_length (y ∷ xs) x = ap suc (append_length xs x)
 
-from_keeps : (types : List TypeForm) (known : List Bool) (bs : List BodyForm) (n : ℕ) → n < length known
-    → slice_index_or (frugal_from types known bs) n false ≡ slice_index_or known n false
-from_keeps types known [] n less = refl
-from_keeps types known (b ∷ bs) n less =
-    let here = is_frugal_body (by types known) b in
-    from_keeps types (known ++ here ∷ []) bs n (omega (arith, less, append_length known here)) ∙ append_keeps known (here ∷ []) n less
+-- Where these access types are outermost, procedures come behind others.
+module _ (types : List TypeForm) (outermost : List ℕ) where
+  from_more : (known : List Bool) (bs : List BodyForm) → TellsMore known (frugal_from types outermost known bs)
+  from_more known [] n h = h
+  from_more known (b ∷ bs) n h =
+      let here = is_frugal_body (by types outermost known) b in
+      from_more (known ++ here ∷ []) bs n (append_more known (here ∷ []) n h)
 
--- So each one behind those that are known is told as its body is.
-from_at : (types : List TypeForm) (known : List Bool) (bs : List BodyForm) (n i : ℕ) (b : BodyForm) → i ≡ n + length known → slice_get bs n ≡ Some b
-    → slice_index_or (frugal_from types known bs) i false ≡ true → is_frugal_body (by types (frugal_from types known bs)) b ≡ true
-from_at types known [] n i b place at told = absurd (cc at)
-from_at types known (c ∷ bs) zero i b place at told =
-    let here = is_frugal_body (by types known) c in
-    let more = known ++ here ∷ [] in
-    let first : i ≡ length known = omega (arith, place) in
-    let kept : slice_index_or (frugal_from types more bs) (length known) false ≡ slice_index_or more (length known) false =
-    from_keeps types more bs (length known) (omega (arith, append_length known here)) in
-    let frugal : here ≡ true = sym (kept ∙ append_last known here) ∙ ap (λ (j : ℕ). slice_index_or (frugal_from types more bs) j false) (sym first) ∙ told in
-    let same : c ≡ b = cc at in
-    subst (λ (d : BodyForm). is_frugal_body (by types (frugal_from types more bs)) d ≡ true) same
-    (body_more (by types known) (by types (frugal_from types more bs)) refl (λ j h. from_more types more bs j (append_more known (here ∷ []) j h)) c frugal)
-from_at types known (c ∷ bs) (suc n) i b place at told =
-    let here = is_frugal_body (by types known) c in
-    from_at types (known ++ here ∷ []) bs n i b (omega (arith, place, append_length known here)) at told
+  from_keeps : (known : List Bool) (bs : List BodyForm) (n : ℕ) → n < length known
+      → slice_index_or (frugal_from types outermost known bs) n false ≡ slice_index_or known n false
+  from_keeps known [] n less = refl
+  from_keeps known (b ∷ bs) n less =
+      let here = is_frugal_body (by types outermost known) b in
+      from_keeps (known ++ here ∷ []) bs n (omega (arith, less, append_length known here)) ∙ append_keeps known (here ∷ []) n less
+
+  -- So each one behind those that are known is told as its body is.
+  from_at : (known : List Bool) (bs : List BodyForm) (n i : ℕ) (b : BodyForm) → i ≡ n + length known → slice_get bs n ≡ Some b
+      → slice_index_or (frugal_from types outermost known bs) i false ≡ true
+      → is_frugal_body (by types outermost (frugal_from types outermost known bs)) b ≡ true
+  from_at known [] n i b place at told = absurd (cc at)
+  from_at known (c ∷ bs) zero i b place at told =
+      let here = is_frugal_body (by types outermost known) c in
+      let more = known ++ here ∷ [] in
+      let all = frugal_from types outermost more bs in
+      let first : i ≡ length known = omega (arith, place) in
+      let kept : slice_index_or all (length known) false ≡ slice_index_or more (length known) false =
+      from_keeps more bs (length known) (omega (arith, append_length known here)) in
+      let frugal : here ≡ true = sym (kept ∙ append_last known here) ∙ ap (λ (j : ℕ). slice_index_or all j false) (sym first) ∙ told in
+      let same : c ≡ b = cc at in
+      subst (λ (d : BodyForm). is_frugal_body (by types outermost all) d ≡ true) same
+      (body_more (by types outermost known) (by types outermost all) refl (λ t h. h) (λ j h. from_more more bs j (append_more known (here ∷ []) j h)) c frugal)
+  from_at known (c ∷ bs) (suc n) i b place at told =
+      let here = is_frugal_body (by types outermost known) c in
+      from_at (known ++ here ∷ []) bs n i b (omega (arith, place, append_length known here)) at told
 
 -- A procedure that is told to be frugal has a frugal body.
 pub frugal_at : (p : ProgramForm) (number : ℕ) (b : BodyForm) → slice_index_or (frugal_procedures p) number false ≡ true
     → slice_get p.bodies number ≡ Some b → is_frugal_body (thrift_of p) b ≡ true
-frugal_at p number b told there = from_at p.types [] p.bodies number number b (omega arith) there told
+frugal_at p number b told there = from_at p.types (collected p.declarations) [] p.bodies number number b (omega arith) there told
+
+-- Two tests are alike where each one holds if the other one does.
+alike : (a b : Bool) → (a ≡ true → b ≡ true) → (b ≡ true → a ≡ true) → a ≡ b
+alike true b there back = sym (there refl)
+alike false true there back = back refl
+alike false false there back = refl
+
+-- It counts only which access types are outermost, and not in which order these stand.
+module _ (types : List TypeForm) (one other : List ℕ) (same : (t : ℕ) → is_one_of one t ≡ is_one_of other t) where
+  body_alike : (known : List Bool) (b : BodyForm) → is_frugal_body (by types one known) b ≡ is_frugal_body (by types other known) b
+  body_alike known b =
+      alike (is_frugal_body (by types one known) b) (is_frugal_body (by types other known) b)
+      (body_more (by types one known) (by types other known) refl (λ t h. sym (same t) ∙ h) (λ n h. h) b)
+      (body_more (by types other known) (by types one known) refl (λ t h. same t ∙ h) (λ n h. h) b)
+
+  pub frugal_alike : (known : List Bool) (bs : List BodyForm) → frugal_from types one known bs ≡ frugal_from types other known bs
+  frugal_alike known [] = refl
+  frugal_alike known (b ∷ bs) =
+      ap (λ (here : Bool). frugal_from types one (known ++ here ∷ []) bs) (body_alike known b)
+      ∙ frugal_alike (known ++ is_frugal_body (by types other known) b ∷ []) bs

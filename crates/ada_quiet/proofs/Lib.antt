@@ -8,6 +8,8 @@ pub mod InUse
 pub mod QuietFrugal
 -- quiet bodies are simple
 pub mod QuietSimple
+-- the numbers that are marked
+pub mod MarkedNumbers
 -- procedures that are frugal have frugal bodies
 pub mod FrugalAt
 -- collections that are created in order, found in one pass
@@ -16,7 +18,5 @@ pub mod Collecting
 pub mod NumberedTypes
 -- which types are calm, by what lies in their objects
 pub mod CalmTypes
--- the last ones of those that override operations of the parts of a record type's objects
-pub mod EarlierParts
 -- the first place where a component of a record frees an object
 pub mod Releasing

@@ -39,6 +39,22 @@ text_order = record {
   apart = λ a. apart a.line a.column;
 }
 
+-- Two places are one, if neither stands before the other one.
+one_place : (l m c d : ℕ) → (nat_lt l m || ((l == m) && nat_lt c d)) ≡ false → (nat_lt m l || ((m == l) && nat_lt d c)) ≡ false → (l ≡ m) × (c ≡ d)
+one_place l m c d h g = (grind (arith, h, g), grind (arith, h, g))
+
+same_place : (a b : Spot) → stands_before a b ≡ false → stands_before b a ≡ false → a ≡ b
+same_place a b h g =
+    let (line, column) = one_place a.line b.line a.column b.column h g in
+    ap (λ (l : ℕ). record { line = l; column = a.column }) line ∙ ap (λ (c : ℕ). record { line = b.line; column = c }) column
+
+-- So there is one first place of some, or none.
+pub one_first : (places : Spot → Type 0) (a b : Option Spot) → IsFirst places a → IsFirst places b → a ≡ b
+one_first places None None f g = refl
+one_first places None (Some b) f g = absurd (f b g.0)
+one_first places (Some a) None f g = absurd (g a f.0)
+one_first places (Some a) (Some b) f g = ap (λ (s : Spot). Some s) (same_place a b (g.1 a f.0) (f.1 b g.0))
+
 -- One operation.
 
 pub some_same : {X : Type 0} {x y : X} → Some x ≡ Some y → x ≡ y

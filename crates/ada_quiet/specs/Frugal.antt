@@ -1,37 +1,22 @@
 -- Bodies of Initialize and Finalize that touch storage, and of procedures that they call (7.6, 4.8, 5.2, 6.4, 13.11.2): they allocate, move, follow and free
 -- objects, also some with controlled parts, which are initialized by default, assign records without controlled parts, and declare variables, which may be given
--- what they allocate, and record objects that name nothing. S10 refuses a Finalize that allocates.
+-- what they allocate, and record objects that name objects of the main procedure's collections alone. S10 refuses a Finalize that allocates.
 
 use Rattle.std.specs.Prelude.{ℕ, Bool, true, false, not, ◌&&◌, List, [], ◌∷◌, ◌++◌, Option, Some, None, is_some}
-use Rattle.std.specs.List.{list_all, slice_get, slice_index_or}
+use Rattle.std.specs.List.{list_all, slice_index_or}
 use Rattle.ada_program.specs.Form.{RightForm, nothing, value_of, allocates, allocates_default, computes, StmtForm, skips, assigns, assigns_record, frees, gets, writes, writes_text, chooses, repeats, counts, exits, calls, returns, raises, encloses, StmtsForm, no_stmts, a_stmt, BranchesForm, otherwise, a_branch, HandlersForm, no_handlers, a_handler, DeclarationForm, creates_pool, collects, declares, declares_record}
-use Rattle.ada_program.specs.declared.program.ComponentKind.{ComponentKind}
-use Rattle.ada_program.specs.declared.program.ComponentKind.TheVariants as component
 use Rattle.ada_program.specs.declared.program.ProcedureNo.{ProcedureNo}
+use Rattle.ada_program.specs.Nested.{collected, record_nests}
 use Rattle.ada_program.specs.ProgramForm.{TypeForm, BodyForm, ProgramForm}
-use Rattle.ada_program.specs.WellFormed.{finalization_of, reached_components}
+use Rattle.ada_program.specs.WellFormed.{finalization_of}
 use Rattle.ada_quiet.specs.Apart.{is_bare_item}
 use Rattle.ada_quiet.specs.Bare.{has_bare_objects}
-use Rattle.ada_quiet.specs.Earlier.{declares_earlier_parts}
 
--- A component is an Integer or a Boolean (3.5).
-abbrev pub is_scalar : ComponentKind → Bool
-is_scalar (component.Integer initial) = true
-is_scalar (component.Boolean initial) = true
-is_scalar (component.Access access) = false
-
--- So is each of these, if there are some.
-abbrev pub are_scalars : Option (List ComponentKind) → Bool
-are_scalars None = false
-are_scalars (Some components) = list_all is_scalar components
-
--- Each component of the object that is known by a type is so, at any depth: it names nothing (3.8).
-abbrev pub holds_scalars : List TypeForm → (object_type : ℕ) → Bool
-holds_scalars types t = are_scalars (reached_components types t)
-
--- What frugal bodies go by: the types of the program; and of each procedure, by its number, whether its body is frugal.
+-- What frugal bodies go by: the types of the program; the access types whose collections the main procedure declares; and of each procedure, by its number,
+-- whether its body is frugal.
 pub record Thrift : Type 0 where
   pub types : List TypeForm
+  pub outermost : List ℕ
   pub procedures : List Bool
 
 -- What is assigned is no new object (4.8), or one without controlled parts, or one that is initialized by default (7.6).
@@ -42,13 +27,13 @@ allocates_frugally thrift (allocates access items) = has_bare_objects thrift.typ
 allocates_frugally thrift (allocates_default access) = true
 allocates_frugally thrift (computes e) = true
 
--- A declaration is that of a variable (3.3.1), and so it is with what that is given at first; or of a record object that names nothing and is initialized by
--- default: no collection and no pool is created.
+-- A declaration is that of a variable (3.3.1), and so it is with what that is given at first; or of a record object that is initialized by default, and whose
+-- components, at any depth, name objects of outermost collections alone (3.8, 3.10.2): no collection and no pool is created.
 abbrev pub is_frugal_declaration : Thrift → DeclarationForm → Bool
 is_frugal_declaration thrift (creates_pool p) = false
 is_frugal_declaration thrift (collects access) = false
 is_frugal_declaration thrift (declares x right) = allocates_frugally thrift right
-is_frugal_declaration thrift (declares_record x t None) = holds_scalars thrift.types t
+is_frugal_declaration thrift (declares_record x t None) = record_nests thrift.types thrift.outermost t
 is_frugal_declaration thrift (declares_record x t (Some items)) = false
 
 -- So is each of these.
@@ -96,20 +81,20 @@ abbrev pub is_frugal_body : Thrift → BodyForm → Bool
 is_frugal_body thrift b = are_frugal_declarations thrift b.declarations && are_frugal thrift b.statements && are_frugal_handlers thrift b.handlers
 
 -- Of these procedures, behind others: each calls those before it.
-abbrev pub frugal_from : List TypeForm → (frugal : List Bool) → List BodyForm → List Bool
-frugal_from types frugal [] = frugal
-frugal_from types frugal (b ∷ bs) = frugal_from types (frugal ++ is_frugal_body (record { types = types; procedures = frugal }) b ∷ []) bs
+abbrev pub frugal_from : List TypeForm → (outermost : List ℕ) → (frugal : List Bool) → List BodyForm → List Bool
+frugal_from types outermost frugal [] = frugal
+frugal_from types outermost frugal (b ∷ bs) =
+    frugal_from types outermost (frugal ++ is_frugal_body (record { types = types; outermost = outermost; procedures = frugal }) b ∷ []) bs
 
 -- Of the procedures of a program.
 abbrev pub frugal_procedures : ProgramForm → List Bool
-frugal_procedures p = frugal_from p.types [] p.bodies
+frugal_procedures p = frugal_from p.types (collected p.declarations) [] p.bodies
 
 -- What the frugal bodies of a program go by.
 abbrev pub thrift_of : ProgramForm → Thrift
-thrift_of p = record { types = p.types; procedures = frugal_procedures p }
+thrift_of p = record { types = p.types; outermost = collected p.declarations; procedures = frugal_procedures p }
 
--- What overrides an operation has a frugal body, whose declarations create parts alone whose operations are overridden earlier, if one is overridden (7.6).
+-- What overrides an operation has a frugal body, if one is overridden (7.6).
 abbrev pub is_frugal_operation : ProgramForm → Option ProcedureNo → Bool
 is_frugal_operation p None = true
-is_frugal_operation p (Some procedure) =
-    slice_index_or (frugal_procedures p) procedure.0 false && declares_earlier_parts p procedure.0 (slice_get p.bodies procedure.0)
+is_frugal_operation p (Some procedure) = slice_index_or (frugal_procedures p) procedure.0 false

@@ -1,7 +1,7 @@
 -- What frugal bodies go by, as the code holds it, which procedures or types are marked, those of components among them, and which record types have
 -- which number.
 
-use Rattle.std.specs.Prelude.{◌≡◌, ◌<◌, ℕ, Bool, true, false, List, length, count_by, Option, Some, None}
+use Rattle.std.specs.Prelude.{◌≡◌, ◌<◌, ℕ, suc, Bool, true, false, List, [], ◌∷◌, length, map, count_by, Option, Some, None}
 use Rattle.std.specs.List.{slice_index_or, slice_set}
 use Rattle.ada_program.specs.declared.program.TypeDefinition.{TypeDefinition}
 use Rattle.ada_program.specs.Controlled.{number_by, type_numbered, has_parts}
@@ -11,13 +11,23 @@ use Rattle.ada_quiet.specs.Bare.{record_has_component_of}
 use Rattle.ada_quiet.specs.declared.components.Held.{Held}
 use Rattle.ada_quiet.specs.Frugal.{Thrift}
 
--- What frugal bodies go by, as the code holds it: the types, and which procedures have frugal bodies.
-abbrev pub thrift_in : List TypeDefinition → (frugal : List Bool) → Thrift
-thrift_in types frugal = record { types = types_in types; procedures = frugal }
+-- What frugal bodies go by, as the code holds it: the types, the collections of the main procedure, and which procedures have frugal bodies.
+abbrev pub thrift_in : List TypeDefinition → (outermost : List ℕ) → (frugal : List Bool) → Thrift
+thrift_in types outermost frugal = record { types = types_in types; outermost = outermost; procedures = frugal }
 
 -- The procedure or the type of a number is marked. None behind the last mark is.
 abbrev pub is_marked : (marks : List Bool) → (number : ℕ) → Bool
 is_marked marks number = slice_index_or marks number false
+
+-- Whether the first number is marked stands before the others that are.
+abbrev pub with_first : (first : Bool) → (others : List ℕ) → List ℕ
+with_first true others = 0 ∷ others
+with_first false others = others
+
+-- The numbers that are marked.
+abbrev pub marked_in : (marks : List Bool) → List ℕ
+marked_in [] = []
+marked_in (first ∷ marks) = with_first first (map suc (marked_in marks))
 
 -- Of each record type that is marked, the types of the components are, those that are access types.
 abbrev pub AreHeld : List TypeForm → Held → Type 0

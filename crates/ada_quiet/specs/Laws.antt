@@ -1,13 +1,12 @@
 -- Laws of what is in use, and of calm types.
 
-use Rattle.std.specs.Prelude.{◌≡◌, ◌↔◌, ◌≤◌, ℕ, Bool, true, List, Some}
+use Rattle.std.specs.Prelude.{◌≡◌, ◌↔◌, ℕ, Bool, true, List, Some}
 use Rattle.std.specs.List.{slice_get}
 use Rattle.ada_program.specs.declared.program.Finalization.{Finalization}
 use Rattle.ada_program.specs.ProgramForm.{TypeForm, BodyForm, ProgramForm}
 use Rattle.ada_program.specs.Walks.{Walks}
 use Rattle.ada_program.specs.WellFormed.{IsWellFormed, finalization_of}
 use Rattle.ada_quiet.specs.Calm.{is_known_calm, calm_by}
-use Rattle.ada_quiet.specs.Earlier.{own_count, known_count, override_counts}
 use Rattle.ada_quiet.specs.Quiet.{is_plain_body, is_quiet_body, operations_are_quiet}
 use Rattle.ada_quiet.specs.Frugal.{Thrift, is_frugal_body}
 use Rattle.ada_quiet.specs.Simple.{is_simple_body}
@@ -34,10 +33,3 @@ IsToldWithin own types t = (u first part : ℕ) (form : TypeForm) → Walks type
 abbrev pub CalmIsToldWithin : Type 0
 CalmIsToldWithin = (p : ProgramForm) (own : TypeForm → Bool) → IsWellFormed p → (t : ℕ) (f : Finalization) → finalization_of p.types t ≡ Some f
     → (is_known_calm (calm_by own p.types) (Some f) ≡ true) ↔ IsToldWithin own p.types t
-
--- In a well-formed program there are, for each record type with controlled parts, at least as many procedures up to the last one that overrides an operation
--- of a part of its objects as up to the last one that overrides an own operation of a record that lies in these, itself included (7.6).
-abbrev pub OverridesAreCounted : Type 0
-OverridesAreCounted = (p : ProgramForm) → IsWellFormed p → (t : ℕ) (f : Finalization) → finalization_of p.types t ≡ Some f
-    → (u first part : ℕ) (g : Finalization) → Walks p.types t first part u → finalization_of p.types u ≡ Some g
-    → own_count g.operations ≤ known_count (override_counts p.types) (Some f)

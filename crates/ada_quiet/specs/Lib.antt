@@ -8,8 +8,6 @@ pub mod Calm
 pub mod Bare
 -- programs that call no operation
 pub mod Idle
--- bodies whose own declarations create parts alone whose operations are overridden earlier
-pub mod Earlier
 -- bodies of Initialize and Finalize that touch storage: frugal ones
 pub mod Frugal
 -- bodies of an Adjust that touch storage: simple ones

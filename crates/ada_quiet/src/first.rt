@@ -3,18 +3,15 @@
 //! component of an access type, not simple, or may not track, or frees objects where a record of the program has two controlled parts, or
 //! Finalize is neither quiet nor, where it may be, frugal.
 
-ghost use Rattle.std.specs.Prelude.{◌≡◌, ◌↔◌, None, true, map, IfOk};
-ghost use Rattle.ada_program.specs.Kept.{types_in};
+ghost use Rattle.std.specs.Prelude.{◌≡◌, ◌↔◌, None, true, IfOk};
 ghost use Rattle.ada_program.specs.ProgramForm.{program_form};
-ghost use Rattle.ada_quiet.specs.Earlier.{count_up_to, override_counts};
 ghost use Rattle.ada_quiet.specs.First as rules;
 ghost use Rattle.ada_quiet.specs.First.{BeginsUnused, IsFirst, IsFirstUnused};
-ghost use Rattle.ada_quiet.specs.Frugal as frugal;
+ghost use Rattle.ada_quiet.specs.Frugal as spent;
 ghost use Rattle.ada_quiet.specs.InUse as in_use;
 ghost use Rattle.ada_quiet.specs.InUse.{operations_are_in_use, operations_may_be_called};
 ghost use Rattle.ada_quiet.specs.Quiet as quiet;
 
-use crate::earlier::last_overriders;
 use crate::frugal::frugal_procedures;
 use crate::idle::{adjusts_nothing, are_idle};
 use crate::operations::has_access;
@@ -94,27 +91,17 @@ fn allowed_in(alloc: Global, program: &Program) -> Result<Allowed, AllocError>
     })
 }
 
-/// What is known of the procedures of a program.
-#[derive(Clone, Copy)]
-struct Known<'a> {
-    /// Of each one, by its number, whether its body is frugal.
-    frugal: &'a [bool],
-    /// Of each record type with controlled parts, the last one that overrides an operation of a part of its objects.
-    last: &'a [Option<ProcedureNo>],
-}
-
-/// The first one of those that override the operations of a type and are not in use, where this is allowed, and the type has such a
-/// component or not.
+/// The first one of those that override the operations of a type and are not in use, by the procedures whose bodies are frugal, where
+/// this is allowed, and the type has such a component or not.
 fn unused_in(
     alloc: Global,
     program: &Program,
-    known: Known<'_>,
+    frugal: &[bool],
     may: Allowed,
     owns: bool,
     finalization: Option<Finalization>,
 ) -> Result<Option<Spot>, AllocError>
-    requires frugal { known.frugal.now ≡ frugal.frugal_procedures (program_form program.now) }
-    requires last { map count_up_to known.last.now ≡ override_counts (types_in program.now.types.items) }
+    requires { frugal.now ≡ spent.frugal_procedures (program_form program.now) }
     ensures { IfOk result (λ first. first
         ≡ rules.unused_in (program_form program.now) may.frugal may.nothing may.tracks may.alone owns finalization) }
 {
@@ -122,32 +109,18 @@ fn unused_in(
         return Ok(None);
     };
     let operations = finalization.operations;
-    let begins = uses_initialize(
-        program,
-        known.frugal,
-        known.last,
-        may.frugal,
-        operations.initialize,
-    );
+    let begins = uses_initialize(program, frugal, may.frugal, operations.initialize);
     let adjusts = uses_adjust(
         alloc,
         program,
-        known.frugal,
-        known.last,
+        frugal,
         may.nothing,
         may.tracks,
         may.alone,
         owns,
         operations.adjust,
     )?;
-    let ends = uses_finalize(
-        alloc,
-        program,
-        known.frugal,
-        known.last,
-        may.frugal,
-        operations.finalize,
-    )?;
+    let ends = uses_finalize(alloc, program, frugal, may.frugal, operations.finalize)?;
     let initialize = start_unless(program, begins, operations.initialize);
     let adjust = start_unless(program, adjusts, operations.adjust);
     let finalize = start_unless(program, ends, operations.finalize);
@@ -165,19 +138,14 @@ fn first_uncallable(alloc: Global, program: &Program) -> Result<Option<Spot>, Al
     ensures called { IfOk result (λ first. (first ≡ None) ↔ (operations_may_be_called (program_form program.now) ≡ true)) }
 {
     let frugal = frugal_procedures(alloc, program)?;
-    let last = last_overriders(alloc, &program.types)?;
     let may = allowed_in(alloc, program)?;
     let mut first = None;
     'types: for number in 0..program.types.len() {
         let owns = has_access(&program.types, number);
-        let known = Known {
-            frugal: &frugal,
-            last: &last,
-        };
         let found = unused_in(
             alloc,
             program,
-            known,
+            &frugal,
             may,
             owns,
             finalization_of(&program.types, number),

@@ -1,18 +1,21 @@
 //! Declarations, statements and bodies, where they are frugal: they allocate, move, follow and free objects (4.8, 13.11.2), assign records
-//! without controlled parts (5.2), call procedures with frugal bodies alone (6.4), and declare variables and record objects that name
-//! nothing. These objects, and what they allocate with controlled parts, are initialized by default (3.3.1, 7.6).
+//! without controlled parts (5.2), call procedures with frugal bodies alone (6.4), and declare variables, and record objects whose
+//! components, at any depth, name objects of collections that the main procedure declares. These objects, and what they allocate with
+//! controlled parts, are initialized by default (3.3.1, 7.6).
 
-ghost use Rattle.std.specs.Prelude.{◌≡◌, ◌&&◌, false, map, slice_index_or, IfOk};
+ghost use Rattle.std.specs.Prelude.{◌≡◌, ◌&&◌, ◌||◌, ℕ, false, [], map, slice_index_or, IfOk, OnOk};
 ghost use Rattle.std.specs.List.{list_all};
 ghost use Rattle.std.specs.Option.{option_copied};
 ghost use Rattle.ada_program.specs.Form.{StmtsForm, branches_form, declaration_form, handlers_form, initial_form, right_form, stmt_form, stmts_form};
 ghost use Rattle.ada_program.specs.Kept.{types_in};
+ghost use Rattle.ada_program.specs.Nested as nested;
 ghost use Rattle.ada_program.specs.ProgramForm.{body_form, program_form};
 ghost use Rattle.ada_quiet.specs.Frugal as rules;
-ghost use Rattle.ada_quiet.specs.Known.{thrift_in};
+ghost use Rattle.ada_quiet.specs.Known.{is_marked, marked_in, thrift_in};
 
 use crate::apart::are_bare_items;
 use crate::bare::has_bare_objects;
+use crate::marks::{has_mark, mark};
 use ada_program::lookup::reached_components;
 use ada_program::parts::finalization_of;
 use ada_program::program::{
@@ -26,45 +29,49 @@ use std::alloc::{AllocError, Global};
 struct Thrift<'a> {
     /// The types of the program.
     types: &'a [TypeDefinition],
+    /// Marks of the access types whose collections the main procedure declares.
+    outermost: &'a [bool],
     /// Of each procedure that is known, by its number, whether its body is frugal.
     procedures: &'a [bool],
 }
 
-/// Whether a component is an Integer or a Boolean (3.5).
-fn is_scalar(component: ComponentKind) -> bool
-    ensures { result ≡ rules.is_scalar component }
+/// Whether a component holds no access value (3.8), or values of an access type that is marked.
+#[tactic(auto, using(std::proofs::lemmas::Grind::common_steps, crate::proofs::MarkedNumbers::mark_steps))]
+fn kind_is_open(outermost: &[bool], component: ComponentKind) -> bool
+    ensures { result ≡ nested.kind_is_open (marked_in outermost.now) component }
 {
     match component {
         ComponentKind::Integer { initial: _ } | ComponentKind::Boolean { initial: _ } => true,
-        ComponentKind::Access(_) => false,
+        ComponentKind::Access(access) => has_mark(outermost, access.0),
     }
 }
 
-/// Whether each of these components is. Linear in them.
-fn are_all_scalars(components: &[ComponentKind]) -> bool
-    ensures { result ≡ list_all rules.is_scalar components.now }
+/// Whether each of these components does. Linear in them.
+fn are_open(outermost: &[bool], components: &[ComponentKind]) -> bool
+    ensures { result ≡ list_all (nested.kind_is_open (marked_in outermost.now)) components.now }
 {
     'components: for component in components {
-        if !is_scalar(*component) {
+        if !kind_is_open(outermost, *component) {
             return false;
         }
     }
     true
 }
 
-/// Whether each component of the object that is known by a type is, at any depth: it names nothing (3.8). Linear in the components.
-fn holds_scalars(types: &[TypeDefinition], object: TypeNo) -> bool
-    ensures { result ≡ rules.holds_scalars (types_in types.now) object.0 }
+/// Whether each component of the object that is known by a type does, at any depth: what they name lies in collections that last at least
+/// as long (3.10.2). Linear in the components.
+fn record_nests(types: &[TypeDefinition], outermost: &[bool], object: TypeNo) -> bool
+    ensures { result ≡ nested.record_nests (types_in types.now) (marked_in outermost.now) object.0 }
 {
     match reached_components(types, object.0) {
-        Some(components) => are_all_scalars(components),
-        None => false,
+        Some(components) => are_open(outermost, components),
+        None => true,
     }
 }
 
 /// Whether what is assigned is no new object (4.8), or one that has no controlled parts, or is initialized by default (7.6).
 fn allocates_frugally(thrift: Thrift<'_>, right: &Right) -> bool
-    ensures { let by = thrift_in thrift.entry.types.now thrift.entry.procedures.now in
+    ensures { let by = thrift_in thrift.entry.types.now (marked_in thrift.entry.outermost.now) thrift.entry.procedures.now in
         result ≡ rules.allocates_frugally by (right_form right.now) }
 {
     match right {
@@ -75,7 +82,7 @@ fn allocates_frugally(thrift: Thrift<'_>, right: &Right) -> bool
 
 /// Whether what a variable is given at first is, if it is given something (3.3.1).
 fn initial_allocates_frugally(thrift: Thrift<'_>, initial: &Option<Right>) -> bool
-    ensures { let by = thrift_in thrift.entry.types.now thrift.entry.procedures.now in
+    ensures { let by = thrift_in thrift.entry.types.now (marked_in thrift.entry.outermost.now) thrift.entry.procedures.now in
         result ≡ rules.allocates_frugally by (initial_form initial.now) }
 {
     match initial {
@@ -84,10 +91,10 @@ fn initial_allocates_frugally(thrift: Thrift<'_>, initial: &Option<Right>) -> bo
     }
 }
 
-/// Whether a declaration is that of a variable, and so it is with what that is given at first (3.3.1), or that of a record object that names
-/// nothing and is initialized by default.
+/// Whether a declaration is that of a variable, and so it is with what that is given at first (3.3.1), or that of a record object that is
+/// initialized by default, and whose components name objects of outermost collections alone.
 fn is_frugal_declaration(thrift: Thrift<'_>, declaration: &Declaration) -> bool
-    ensures { let by = thrift_in thrift.entry.types.now thrift.entry.procedures.now in
+    ensures { let by = thrift_in thrift.entry.types.now (marked_in thrift.entry.outermost.now) thrift.entry.procedures.now in
         result ≡ rules.is_frugal_declaration by (declaration_form declaration.now) }
 {
     match declaration {
@@ -99,7 +106,7 @@ fn is_frugal_declaration(thrift: Thrift<'_>, declaration: &Declaration) -> bool
             variable: _,
             object,
             initial: None,
-        } => holds_scalars(thrift.types, *object),
+        } => record_nests(thrift.types, thrift.outermost, *object),
         Declaration::Record {
             variable: _,
             object: _,
@@ -111,7 +118,7 @@ fn is_frugal_declaration(thrift: Thrift<'_>, declaration: &Declaration) -> bool
 
 /// Whether each of these declarations is.
 fn are_frugal_declarations(thrift: Thrift<'_>, declarations: &[Declaration]) -> bool
-    ensures { let by = thrift_in thrift.entry.types.now thrift.entry.procedures.now in
+    ensures { let by = thrift_in thrift.entry.types.now (marked_in thrift.entry.outermost.now) thrift.entry.procedures.now in
         result ≡ rules.are_frugal_declarations by (map declaration_form declarations.now) }
 {
     'declarations: for declaration in declarations {
@@ -137,7 +144,7 @@ pub(crate) fn is_frugal_call(frugal: &[bool], procedure: ProcedureNo) -> bool
 #[cycle(statements)]
 #[tactic(auto, using(std::proofs::lemmas::Grind::common_steps, ada_program::specs::Form::statement_rules))]
 fn is_frugal_stmt(thrift: Thrift<'_>, statement: &Stmt) -> bool
-    ensures { let by = thrift_in thrift.entry.types.now thrift.entry.procedures.now in
+    ensures { let by = thrift_in thrift.entry.types.now (marked_in thrift.entry.outermost.now) thrift.entry.procedures.now in
         result ≡ rules.is_frugal_stmt by (stmt_form statement.now) }
 {
     match statement {
@@ -187,7 +194,7 @@ fn is_frugal_stmt(thrift: Thrift<'_>, statement: &Stmt) -> bool
 /// Whether statements are frugal.
 #[cycle(statements)]
 fn are_frugal(thrift: Thrift<'_>, statements: &[Stmt]) -> bool
-    ensures { let by = thrift_in thrift.entry.types.now thrift.entry.procedures.now in
+    ensures { let by = thrift_in thrift.entry.types.now (marked_in thrift.entry.outermost.now) thrift.entry.procedures.now in
         result ≡ rules.are_frugal by (stmts_form statements.now) }
 {
     'statements: for statement in statements {
@@ -201,7 +208,7 @@ fn are_frugal(thrift: Thrift<'_>, statements: &[Stmt]) -> bool
 /// Whether branches are (5.3).
 #[cycle(statements)]
 fn are_frugal_branches(thrift: Thrift<'_>, branches: &[Branch]) -> bool
-    ensures { let by = thrift_in thrift.entry.types.now thrift.entry.procedures.now in
+    ensures { let by = thrift_in thrift.entry.types.now (marked_in thrift.entry.outermost.now) thrift.entry.procedures.now in
         (others : StmtsForm) → rules.are_frugal_branches by (branches_form branches.now others) ≡ (result && rules.are_frugal by others) }
 {
     'branches: for branch in branches {
@@ -215,7 +222,7 @@ fn are_frugal_branches(thrift: Thrift<'_>, branches: &[Branch]) -> bool
 /// Whether handlers are (11.2).
 #[cycle(statements)]
 fn are_frugal_handlers(thrift: Thrift<'_>, handlers: &[Handler]) -> bool
-    ensures { let by = thrift_in thrift.entry.types.now thrift.entry.procedures.now in
+    ensures { let by = thrift_in thrift.entry.types.now (marked_in thrift.entry.outermost.now) thrift.entry.procedures.now in
         result ≡ rules.are_frugal_handlers by (handlers_form handlers.now) }
 {
     'handlers: for handler in handlers {
@@ -227,10 +234,10 @@ fn are_frugal_handlers(thrift: Thrift<'_>, handlers: &[Handler]) -> bool
 }
 
 /// Whether a body is frugal: it allocates objects, moves, follows and frees; it calls procedures with frugal bodies alone, assigns no
-/// record with controlled parts as a whole, gives values to the components of no new one, and declares variables, and record objects that
-/// name nothing. An exception may come out of it. Linear in the body.
+/// record with controlled parts as a whole, gives values to the components of no new one, and declares variables, and record objects whose
+/// components name objects of outermost collections alone. An exception may come out of it. Linear in the body.
 fn is_frugal_body(thrift: Thrift<'_>, procedure: &Procedure) -> bool
-    ensures { let by = thrift_in thrift.entry.types.now thrift.entry.procedures.now in
+    ensures { let by = thrift_in thrift.entry.types.now (marked_in thrift.entry.outermost.now) thrift.entry.procedures.now in
         result ≡ rules.is_frugal_body by (body_form procedure.now) }
 {
     are_frugal_declarations(thrift, &procedure.declarations)
@@ -238,21 +245,49 @@ fn is_frugal_body(thrift: Thrift<'_>, procedure: &Procedure) -> bool
         && are_frugal_handlers(thrift, &procedure.handlers)
 }
 
-/// Of each procedure, by its number, whether its body is frugal: it calls those before it. Linear in the bodies.
+/// The access types of the collections that declarations create are marked. Linear in the declarations, and in the types.
+fn mark_collected(marks: &mut Vec<bool>, declarations: &[Declaration]) -> Result<(), AllocError>
+    ensures { OnOk result ((t : ℕ) → is_marked marks.new.items t
+        ≡ (is_marked marks.old.items t || nested.is_one_of (nested.collected (map declaration_form declarations.now)) t)) }
+{
+    'declarations: for declaration in declarations {
+        if let Declaration::Collection(access) = declaration {
+            mark(marks, access.0)?;
+        }
+    }
+    Ok(())
+}
+
+/// Of each procedure, by its number, whether its body is frugal, where these access types are outermost: it calls those before it. Linear
+/// in the bodies.
 ///
 /// # Errors
 /// `AllocError` where memory was refused.
-pub(crate) fn frugal_procedures(alloc: Global, program: &Program) -> Result<Vec<bool>, AllocError>
-    ensures { IfOk result (λ frugal. frugal.items ≡ rules.frugal_procedures (program_form program.now)) }
+fn frugal_by(alloc: Global, program: &Program, outermost: &[bool]) -> Result<Vec<bool>, AllocError>
+    ensures { IfOk result (λ frugal. frugal.items
+        ≡ rules.frugal_from (program_form program.now).types (marked_in outermost.now) [] (program_form program.now).bodies) }
 {
     let mut frugal = Vec::new(alloc);
     'procedures: for procedure in &program.procedures {
         let thrift = Thrift {
             types: &program.types,
+            outermost,
             procedures: &frugal,
         };
         let is_frugal = is_frugal_body(thrift, procedure);
         frugal.push(is_frugal)?;
     }
     Ok(frugal)
+}
+
+/// Of each procedure, by its number, whether its body is frugal. Linear in the types and the bodies.
+///
+/// # Errors
+/// `AllocError` where memory was refused.
+pub(crate) fn frugal_procedures(alloc: Global, program: &Program) -> Result<Vec<bool>, AllocError>
+    ensures { IfOk result (λ frugal. frugal.items ≡ rules.frugal_procedures (program_form program.now)) }
+{
+    let mut outermost = Vec::new(alloc);
+    mark_collected(&mut outermost, &program.declarations)?;
+    frugal_by(alloc, program, &outermost)
 }

@@ -3,7 +3,6 @@
 
 ghost use Rattle.ada_quiet.specs.Laws.{
   CalmIsToldWithin,
-  OverridesAreCounted,
   PlainIsFrugal,
   QuietIsInUse,
   QuietIsSimple,
@@ -28,10 +27,4 @@ pub fn quiet_is_in_use()
 /// that lies in its objects, itself included, whatever is asked about them.
 pub fn calm_is_told_within()
     ensures { CalmIsToldWithin }
-{}
-
-/// In a well-formed program what overrides an own operation of a record that lies in the objects of a record type is counted for this type:
-/// it is not behind the last one of those that override an operation of a part of these objects.
-pub fn overrides_are_counted()
-    ensures { OverridesAreCounted }
 {}

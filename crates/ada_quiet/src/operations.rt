@@ -3,15 +3,13 @@
 ghost use Rattle.std.specs.Prelude.{◌≡◌, ◌&&◌, Some, is_some, map, not, IfOk};
 ghost use Rattle.std.specs.List.{list_any, slice_get};
 ghost use Rattle.ada_program.specs.Kept.{types_in};
-ghost use Rattle.ada_program.specs.ProgramForm.{part_form, program_form, type_form};
+ghost use Rattle.ada_program.specs.ProgramForm.{ProgramForm, part_form, program_form, type_form};
 ghost use Rattle.ada_program.specs.WellFormed as fits;
-ghost use Rattle.ada_quiet.specs.Earlier.{count_up_to, override_counts};
 ghost use Rattle.ada_quiet.specs.Frugal as spent;
 ghost use Rattle.ada_quiet.specs.Quiet as rules;
 ghost use Rattle.ada_quiet.specs.Simple as simple;
 
 use crate::bodies::{is_plain_body, is_quiet_body};
-use crate::earlier::declares_earlier_parts;
 use crate::frugal::is_frugal_call;
 use crate::simple::is_simple_body;
 use ada_program::program::{ComponentKind, Finalization, Part, PartKind, TypeDefinition};
@@ -51,22 +49,13 @@ pub(crate) fn is_quiet_operation(
     is_quiet_body(alloc, &program.types, procedure)
 }
 
-/// Whether it has a frugal one, by the procedures whose bodies are so, and the declarations of this one create parts alone whose operations
-/// are overridden earlier, by the last procedures that override some. Linear in these declarations.
-pub(crate) fn is_frugal_operation(
-    program: &Program,
-    frugal: &[bool],
-    last: &[Option<ProcedureNo>],
-    operation: Option<ProcedureNo>,
-) -> bool
-    requires frugal { frugal.now ≡ spent.frugal_procedures (program_form program.now) }
-    requires last { map count_up_to last.now ≡ override_counts (types_in program.now.types.items) }
-    ensures { result ≡ spent.is_frugal_operation (program_form program.now) operation }
+/// Whether it has a frugal one, by the procedures whose bodies are so.
+pub(crate) fn is_frugal_operation(frugal: &[bool], operation: Option<ProcedureNo>) -> bool
+    ensures { (p : ProgramForm) → frugal.now ≡ spent.frugal_procedures p → result ≡ spent.is_frugal_operation p operation }
 {
     match operation {
         None => true,
-        Some(procedure) => is_frugal_call(frugal, procedure)
-            && declares_earlier_parts(program, last, procedure),
+        Some(procedure) => is_frugal_call(frugal, procedure),
     }
 }
 

@@ -1,9 +1,7 @@
 //! Where an Initialize and a Finalize may be frugal, and where these and an Adjust are in use (7.6, 7.6.1).
 
-ghost use Rattle.std.specs.Prelude.{◌≡◌, map, IfOk};
-ghost use Rattle.ada_program.specs.Kept.{types_in};
+ghost use Rattle.std.specs.Prelude.{◌≡◌, IfOk};
 ghost use Rattle.ada_program.specs.ProgramForm.{program_form, type_form};
-ghost use Rattle.ada_quiet.specs.Earlier.{count_up_to, override_counts};
 ghost use Rattle.ada_quiet.specs.First as first;
 ghost use Rattle.ada_quiet.specs.Frugal.{frugal_procedures};
 ghost use Rattle.ada_quiet.specs.InUse as rules;
@@ -62,16 +60,13 @@ pub fn may_be_frugal(alloc: Global, program: &Program) -> Result<bool, AllocErro
 pub(crate) fn uses_initialize(
     program: &Program,
     procedures: &[bool],
-    last: &[Option<ProcedureNo>],
     frugal: bool,
     operation: Option<ProcedureNo>,
 ) -> bool
-    requires frugal { procedures.now ≡ frugal_procedures (program_form program.now) }
-    requires last { map count_up_to last.now ≡ override_counts (types_in program.now.types.items) }
+    requires { procedures.now ≡ frugal_procedures (program_form program.now) }
     ensures { result ≡ first.initializes (program_form program.now) frugal operation }
 {
-    is_plain_operation(program, operation)
-        || frugal && is_frugal_operation(program, procedures, last, operation)
+    is_plain_operation(program, operation) || frugal && is_frugal_operation(procedures, operation)
 }
 
 /// Whether what overrides Adjust is frugal, where no Adjust is called; else whether it is simple, where it may track, if it is a body, and
@@ -84,18 +79,16 @@ pub(crate) fn uses_adjust(
     alloc: Global,
     program: &Program,
     procedures: &[bool],
-    last: &[Option<ProcedureNo>],
     nothing: bool,
     tracks: bool,
     alone: bool,
     owns: bool,
     operation: Option<ProcedureNo>,
 ) -> Result<bool, AllocError>
-    requires frugal { procedures.now ≡ frugal_procedures (program_form program.now) }
-    requires last { map count_up_to last.now ≡ override_counts (types_in program.now.types.items) }
+    requires { procedures.now ≡ frugal_procedures (program_form program.now) }
     ensures { IfOk result (λ answer. answer ≡ first.adjusts (program_form program.now) nothing tracks alone owns operation) }
 {
-    if nothing && is_frugal_operation(program, procedures, last, operation) {
+    if nothing && is_frugal_operation(procedures, operation) {
         return Ok(true);
     }
     if !(owns && is_overridden(program, operation)) {
@@ -112,16 +105,14 @@ pub(crate) fn uses_finalize(
     alloc: Global,
     program: &Program,
     procedures: &[bool],
-    last: &[Option<ProcedureNo>],
     frugal: bool,
     operation: Option<ProcedureNo>,
 ) -> Result<bool, AllocError>
-    requires frugal { procedures.now ≡ frugal_procedures (program_form program.now) }
-    requires last { map count_up_to last.now ≡ override_counts (types_in program.now.types.items) }
+    requires { procedures.now ≡ frugal_procedures (program_form program.now) }
     ensures { IfOk result (λ answer. answer ≡ first.finalizes (program_form program.now) frugal operation) }
 {
     Ok(
         is_quiet_operation(alloc, program, operation)?
-            || frugal && is_frugal_operation(program, procedures, last, operation),
+            || frugal && is_frugal_operation(procedures, operation),
     )
 }

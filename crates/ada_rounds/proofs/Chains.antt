@@ -1,10 +1,9 @@
 -- Laws of bodies that call themselves.
 
-use Rattle.std.proofs.Common.{◌≡◌, ◌||◌, ◌&&◌, ◌==◌, ℕ, zero, suc, ◌<◌, false, nat_lt, List, [], ◌∷◌, refl, sym, ap, ◌∙◌, inl, inr, subst, arith}
+use Rattle.std.proofs.Common.{◌≡◌, ℕ, zero, suc, ◌<◌, List, [], ◌∷◌, refl, sym, ap, ◌∙◌, inl, inr, subst, arith}
 use Rattle.std.proofs.lemmas.Bool.{cases_eq, cases_lt}
 use Rattle.std.specs.List.{slice_get}
 use Rattle.std.specs.Prelude.{Option, Some, None}
-use Rattle.ada_text.specs.declared.spot.Spot.{Spot}
 use Rattle.ada_deeds.specs.Does.{called_does}
 use Rattle.ada_deeds.specs.Rounds.{is_callee, ComesTo, calls, CallsItself}
 use Rattle.ada_deeds.specs.declared.deed.Callee.{Callee}
@@ -13,26 +12,13 @@ use Rattle.ada_deeds.specs.declared.deed.Deed.TheVariants as deed
 use Rattle.ada_deeds.proofs.Circles.{calls_some, first_call}
 use Rattle.ada_program.specs.declared.program.ProcedureNo.{ProcedureNo}
 use Rattle.ada_program.specs.ProgramForm.{BodyForm, ProgramForm}
-use Rattle.ada_quiet.specs.First.{stands_before}
-use Rattle.ada_quiet.proofs.Unused.{some_same}
-use Rattle.ada_rounds.specs.FirstRound.{InitializesOrAdjusts, IsFirstRound}
+use Rattle.ada_quiet.proofs.Unused.{some_same, one_first}
+use Rattle.ada_rounds.specs.FirstRound.{HasRound, InitializesOrAdjusts, IsFirstRound}
 use Rattle.ada_rounds.specs.Laws.{OneIsFirst, IsChain, empty, last, calling, EachStandsOnce}
 
 -- Two first ones are one.
-
-one_place : (l m c d : ℕ) → (nat_lt l m || ((l == m) && nat_lt c d)) ≡ false → (nat_lt m l || ((m == l) && nat_lt d c)) ≡ false → (l ≡ m) × (c ≡ d)
-one_place l m c d h g = (grind (arith, h, g), grind (arith, h, g))
-
-same_place : (a b : Spot) → stands_before a b ≡ false → stands_before b a ≡ false → a ≡ b
-same_place a b h g =
-    let (line, column) = one_place a.line b.line a.column b.column h g in
-    ap (λ (l : ℕ). record { line = l; column = a.column }) line ∙ ap (λ (c : ℕ). record { line = b.line; column = c }) column
-
 pub one_is_first : OneIsFirst
-one_is_first p None None f g = refl
-one_is_first p None (Some b) f g = absurd (f b g.0)
-one_is_first p (Some a) None f g = absurd (g a f.0)
-one_is_first p (Some a) (Some b) f g = ap (λ (s : Spot). Some s) (same_place a b (g.1 a f.0) (f.1 b g.0))
+one_is_first p = one_first (HasRound p)
 
 -- The first callee of a chain comes to each behind it.
 comes_to : (p : ProgramForm) (c : Callee) (cs : List Callee) → IsChain p (c ∷ cs) → (n : ℕ) (e : Callee) → slice_get cs n ≡ Some e → ComesTo p c e

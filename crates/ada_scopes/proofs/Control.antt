@@ -1,7 +1,7 @@
 -- What is left to do nests in the masters that are entered: the statements of each frame were written where the collections are open that
--- its master and the outer ones have.
+-- its master and the outer ones have. The outermost of them is that of the main procedure, which opens the collections that this declares.
 
-use Rattle.std.proofs.Common.{◌≡◌, ℕ, zero, suc, ◌+◌, ◌≤◌, Bool, true, false, List, [], ◌∷◌, ◌++◌, Some, None, arith, refl, sym, ap, ◌⊎◌, inl}
+use Rattle.std.proofs.Common.{◌≡◌, ℕ, zero, suc, ◌+◌, ◌≤◌, Bool, true, false, List, [], ◌∷◌, ◌++◌, Some, None, arith, refl, sym, ap, ◌⊎◌, inl, inr}
 use Rattle.std.specs.List.{list_all}
 use Rattle.ada_parts.specs.Task.{Task}
 use Rattle.ada_program.specs.Form.{DeclarationForm, StmtsForm, HandlersForm}
@@ -78,32 +78,87 @@ abbrev pub Either : (confined : Bool) → (nests goes : Type 0) → Type 0
 Either true nests goes = nests ⊎ goes
 Either false nests goes = nests
 
+-- What is behind the last frame of a master, where these collections are open: what nests there, or nothing at all, and no master is entered. It is that of
+-- the main procedure then, and the collections that this declares are among them.
+abbrev pub Outside : (main there : List ℕ) → (vs : Scopes) → List (Frame Value) → (nests : Type 0) → Type 0
+Outside main there vs k nests = ((k ≡ []) × (vs ≡ []) × Within main there) ⊎ nests
+
+-- What is behind a frame, whether or not it is the last one of its master.
+abbrev pub Around : (master : Bool) → (outside nests : Type 0) → Type 0
+Around true outside nests = outside
+Around false outside nests = nests
+
 abbrev mutual
   -- What is left to do nests, where masters have opened the first ones of these, of which they have the second ones: a master that is being left has
-  -- lost some.
-  pub Nests : List TypeForm → Callees → (calling : Bool) → (ss vs : Scopes) → List (Frame Value) → Type 0
-  Nests types callees calling ss vs [] = vs ≡ []
-  Nests types callees calling ss vs (f ∷ k) =
+  -- lost some. The outermost one has opened the collections of the main procedure: something is left to do there.
+  pub Nests : List TypeForm → Callees → (main : List ℕ) → (calling : Bool) → (ss vs : Scopes) → List (Frame Value) → Type 0
+  Nests types callees main calling ss vs [] = ⊥
+  Nests types callees main calling ss vs (f ∷ k) =
       FrameNests types callees calling ss vs f
-      × Either (is_confine f) (Nests types callees calling (behind (is_master f) ss) (behind (is_master f) vs) k) (Goes types callees calling (behind (is_master f) ss) (behind (is_master f) vs) k)
+      × Either (is_confine f) (Around (is_master f)
+      (Outside main (all_of ss) (behind (is_master f) vs) k (Nests types callees main calling (behind (is_master f) ss) (behind (is_master f) vs) k))
+      (Nests types callees main calling (behind (is_master f) ss) (behind (is_master f) vs) k))
+      (Goes types callees main calling (behind (is_master f) ss) (behind (is_master f) vs) k)
 
   -- The innermost master is being left, and what is behind that nests.
-  pub Goes : List TypeForm → Callees → (calling : Bool) → (ss vs : Scopes) → List (Frame Value) → Type 0
-  Goes types callees calling ss vs [] = ⊥
-  Goes types callees calling ss vs (frame.Leaves mode ∷ k) = Nests types callees calling (older ss) (older vs) k
-  Goes types callees calling ss vs (frame.Treats v (frame.ends cause) tasks ∷ k) = Goes types callees calling ss vs k
-  Goes types callees calling ss vs (frame.Ends v ∷ k) = Goes types callees calling ss vs k
-  Goes types callees calling ss vs (frame.GivesBack v cause pool ∷ k) = Goes types callees calling ss vs k
-  Goes types callees calling ss vs (f ∷ k) = ⊥
+  pub Goes : List TypeForm → Callees → (main : List ℕ) → (calling : Bool) → (ss vs : Scopes) → List (Frame Value) → Type 0
+  Goes types callees main calling ss vs [] = ⊥
+  Goes types callees main calling ss vs (frame.Leaves mode ∷ k) =
+      Outside main (all_of ss) (older vs) k (Nests types callees main calling (older ss) (older vs) k)
+  Goes types callees main calling ss vs (frame.Treats v (frame.ends cause) tasks ∷ k) = Goes types callees main calling ss vs k
+  Goes types callees main calling ss vs (frame.Ends v ∷ k) = Goes types callees main calling ss vs k
+  Goes types callees main calling ss vs (frame.GivesBack v cause pool ∷ k) = Goes types callees main calling ss vs k
+  Goes types callees main calling ss vs (f ∷ k) = ⊥
+
+-- What is behind a master in which these collections are open, where outer ones have opened the first ones of these.
+abbrev pub NestsOutside : List TypeForm → Callees → (main : List ℕ) → (calling : Bool) → (there : List ℕ) → (ss vs : Scopes) → List (Frame Value) → Type 0
+NestsOutside types callees main calling there ss vs k = Outside main there vs k (Nests types callees main calling ss vs k)
+
+-- So it is where others are open that are alike.
+pub outside_alike : (main us there : List ℕ) (vs : Scopes) (k : List (Frame Value)) (nests : Type 0) → Alike us there → Outside main us vs k nests → Outside main there vs k nests
+outside_alike main us there vs k nests alike (inl none) =
+    inl (none.0, none.1, λ t le. let more = none.2 t le in let same = alike t in omega (arith, more, same))
+outside_alike main us there vs k nests alike (inr nest) = inr nest
+
+-- The collections of the main procedure are among those that masters have opened which still have something to do.
+within_more : (main : List ℕ) (ss : Scopes) → Within main (all_of (older ss)) → Within main (all_of ss)
+within_more main ss within t le = let outer = within t le in let fewer = fewer_older t ss in omega (arith, outer, fewer)
+
+within_outside : (main : List ℕ) (ss vs : Scopes) (k : List (Frame Value)) (nests : Type 0) → (nests → Within main (all_of (older ss))) → Outside main (all_of ss) vs k nests → Within main (all_of ss)
+within_outside main ss vs k nests outer (inl none) = none.2
+within_outside main ss vs k nests outer (inr nest) = within_more main ss (outer nest)
+
+module _ (types : List TypeForm) (callees : Callees) (main : List ℕ) (calling : Bool) where
+  mutual
+    pub nests_within : (ss vs : Scopes) (k : List (Frame Value)) → Nests types callees main calling ss vs k → Within main (all_of ss)
+    nests_within ss vs [] n = absurd n
+    nests_within ss vs (frame.Elaborates ds fs hs ∷ k) n =
+        within_outside main ss (older vs) k (Nests types callees main calling (older ss) (older vs) k) (λ nest. nests_within (older ss) (older vs) k nest) n.1
+    nests_within ss vs (frame.Closes ∷ k) n =
+        within_outside main ss (older vs) k (Nests types callees main calling (older ss) (older vs) k) (λ nest. nests_within (older ss) (older vs) k nest) n.1
+    nests_within ss vs (frame.Leaves mode ∷ k) n = absurd n.0
+    nests_within ss vs (frame.Confines ∷ k) (x, inl n) = nests_within ss vs k n
+    nests_within ss vs (frame.Confines ∷ k) (x, inr goes) = goes_within ss vs k goes
+    nests_within ss vs (f ∷ k) n = nests_within ss vs k n.1
+
+    goes_within : (ss vs : Scopes) (k : List (Frame Value)) → Goes types callees main calling ss vs k → Within main (all_of ss)
+    goes_within ss vs [] goes = absurd goes
+    goes_within ss vs (frame.Leaves mode ∷ k) goes =
+        within_outside main ss (older vs) k (Nests types callees main calling (older ss) (older vs) k) (λ nest. nests_within (older ss) (older vs) k nest) goes
+    goes_within ss vs (frame.Treats v (frame.begins by done) tasks ∷ k) goes = absurd goes
+    goes_within ss vs (frame.Treats v (frame.ends cause) tasks ∷ k) goes = goes_within ss vs k goes
+    goes_within ss vs (frame.Ends v ∷ k) goes = goes_within ss vs k goes
+    goes_within ss vs (frame.GivesBack v cause pool ∷ k) goes = goes_within ss vs k goes
+    goes_within ss vs (f ∷ k) goes = absurd goes
 
 -- An object is treated before what is left to do (7.6, 7.6.1).
-pub nests_treating : (types : List TypeForm) (callees : Callees) (calling : Bool) (ss vs : Scopes) (v : Value) (treatment : Treatment) (tasks : List Task) (k : List (Frame Value)) → Nests types callees calling ss vs k → Nests types callees calling ss vs (treating v treatment tasks k)
-nests_treating types callees calling ss vs v treatment [] k n = n
-nests_treating types callees calling ss vs v treatment (task ∷ tasks) k n = (tt, n)
+pub nests_treating : (types : List TypeForm) (callees : Callees) (main : List ℕ) (calling : Bool) (ss vs : Scopes) (v : Value) (treatment : Treatment) (tasks : List Task) (k : List (Frame Value)) → Nests types callees main calling ss vs k → Nests types callees main calling ss vs (treating v treatment tasks k)
+nests_treating types callees main calling ss vs v treatment [] k n = n
+nests_treating types callees main calling ss vs v treatment (task ∷ tasks) k n = (tt, n)
 
-pub goes_treating : (types : List TypeForm) (callees : Callees) (calling : Bool) (ss vs : Scopes) (v : Value) (cause : Cause) (tasks : List Task) (k : List (Frame Value)) → Goes types callees calling ss vs k → Goes types callees calling ss vs (treating v (frame.ends cause) tasks k)
-goes_treating types callees calling ss vs v cause [] k goes = goes
-goes_treating types callees calling ss vs v cause (task ∷ tasks) k goes = goes
+pub goes_treating : (types : List TypeForm) (callees : Callees) (main : List ℕ) (calling : Bool) (ss vs : Scopes) (v : Value) (cause : Cause) (tasks : List Task) (k : List (Frame Value)) → Goes types callees main calling ss vs k → Goes types callees main calling ss vs (treating v (frame.ends cause) tasks k)
+goes_treating types callees main calling ss vs v cause [] k goes = goes
+goes_treating types callees main calling ss vs v cause (task ∷ tasks) k goes = goes
 
 -- What the components of an access type's objects name lies in collections that are open.
 abbrev pub NeedsOpen : List TypeForm → List ℕ → List ℕ → Type 0
@@ -225,7 +280,7 @@ pub record Growing (types : List TypeForm) (ss : Scopes) (m : Master) (rest : Li
   pub known : (t : ℕ) → 1 ≤ times t (all_of ss) → is_access types t ≡ true
 
 -- A part that is beginning.
-pub record Begins (types : List TypeForm) (callees : Callees) (calling : Bool) (s : State) : Type 0 where
+pub record Begins (types : List TypeForm) (callees : Callees) (main : List ℕ) (calling : Bool) (s : State) : Type 0 where
   pub ss : Scopes
   pub m : Master
   pub rest : List Master
@@ -240,13 +295,15 @@ pub record Begins (types : List TypeForm) (callees : Callees) (calling : Bool) (
   pub growing : Growing types ss m rest s.heap ds there
   pub statements : StatementsNest types callees there fs
   pub handlers : HandlersNest types callees there hs
-  pub nests : Nests types callees calling ss (scopes rest) k
+  pub nests : NestsOutside types callees main calling there ss (scopes rest) k
 
--- A state of a run: what is left to do nests, whether or not a jump is on its way; or a part begins; or the innermost master is being left.
-pub data Nested (types : List TypeForm) (callees : Callees) (calling : Bool) (s : State) : Type 0 where
-  standing : (ss : Scopes) → Whole types ss s.masters s.heap → Nests types callees calling ss (scopes s.masters) s.control → Nested types callees calling s
-  beginning : Begins types callees calling s → Nested types callees calling s
-  parting : (ss : Scopes) → Whole types ss s.masters s.heap → s.mode ≡ Running → Goes types callees calling ss (scopes s.masters) s.control → Nested types callees calling s
+-- A state of a run: what is left to do nests, whether or not a jump is on its way; or a part begins; or the innermost master is being left; or nothing is left
+-- to do, since the master of the main procedure has been left.
+pub data Nested (types : List TypeForm) (callees : Callees) (main : List ℕ) (calling : Bool) (s : State) : Type 0 where
+  standing : (ss : Scopes) → Whole types ss s.masters s.heap → Nests types callees main calling ss (scopes s.masters) s.control → Nested types callees main calling s
+  beginning : Begins types callees main calling s → Nested types callees main calling s
+  parting : (ss : Scopes) → Whole types ss s.masters s.heap → s.mode ≡ Running → Goes types callees main calling ss (scopes s.masters) s.control → Nested types callees main calling s
+  resting : (ss : Scopes) → Whole types ss s.masters s.heap → scopes s.masters ≡ [] → s.control ≡ [] → Nested types callees main calling s
 
 -- How masters change.
 pub whole_declared : (types : List TypeForm) (ss : Scopes) (number x : ℕ) (ms : List Master) (heap : List Object) → Whole types ss ms heap → Whole types ss (owning (record { number = number; owned = declared x }) ms) heap
@@ -282,11 +339,11 @@ whole_recorded types (us ∷ ss) number t (m ∷ ms) heap cell around some home 
   known = w.known;
 }
 
-pub nests_recorded : (types : List TypeForm) (callees : Callees) (calling : Bool) (ss : Scopes) (number t : ℕ) (ms : List Master) (k : List (Frame Value)) → Nests types callees calling ss (scopes ms) k → Nests types callees calling ss (scopes (owning (record { number = number; owned = record_object t }) ms)) k
-nests_recorded types callees calling ss number t ms k n = rw (scopes_recorded number t ms) n
+pub nests_recorded : (types : List TypeForm) (callees : Callees) (main : List ℕ) (calling : Bool) (ss : Scopes) (number t : ℕ) (ms : List Master) (k : List (Frame Value)) → Nests types callees main calling ss (scopes ms) k → Nests types callees main calling ss (scopes (owning (record { number = number; owned = record_object t }) ms)) k
+nests_recorded types callees main calling ss number t ms k n = rw (scopes_recorded number t ms) n
 
-pub nests_declared : (types : List TypeForm) (callees : Callees) (calling : Bool) (ss : Scopes) (number x : ℕ) (ms : List Master) (k : List (Frame Value)) → Nests types callees calling ss (scopes ms) k → Nests types callees calling ss (scopes (owning (record { number = number; owned = declared x }) ms)) k
-nests_declared types callees calling ss number x ms k n = rw (scopes_declared number x ms) n
+pub nests_declared : (types : List TypeForm) (callees : Callees) (main : List ℕ) (calling : Bool) (ss : Scopes) (number x : ℕ) (ms : List Master) (k : List (Frame Value)) → Nests types callees main calling ss (scopes ms) k → Nests types callees main calling ss (scopes (owning (record { number = number; owned = declared x }) ms)) k
+nests_declared types callees main calling ss number x ms k n = rw (scopes_declared number x ms) n
 
 pub whole_heap : (types : List TypeForm) (ss : Scopes) (ms : List Master) (before after : List Object) → Housed after (items_of ms) → Whole types ss ms before → Whole types ss ms after
 whole_heap types ss ms before after housed w = record { lone = w.lone; needs = w.needs; housed = housed; fit = w.fit; records = w.records; covers = w.covers; layered = w.layered; known = w.known }

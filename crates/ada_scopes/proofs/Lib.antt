@@ -30,6 +30,8 @@ pub mod Example
 pub mod LateExample
 -- one with an operation, which is called
 pub mod OperationExample
+-- one whose operation nests only where the collections of the main procedure are open
+pub mod OpenExample
 -- one whose operation does not nest
 pub mod RecursionExample
 -- and one whose operation creates an object too far out

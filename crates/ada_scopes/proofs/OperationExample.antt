@@ -26,8 +26,9 @@ use Rattle.ada_meaning.specs.Named.{next}
 use Rattle.ada_meaning.specs.Run.{grants, takes}
 use Rattle.ada_order.specs.Example.{InSomeRun}
 use Rattle.ada_order.proofs.Choices.{run_by}
-use Rattle.ada_scopes.specs.Scopes.{OperationsNest}
+use Rattle.ada_scopes.specs.Scopes.{OperationsNest, OperationsNestAnywhere}
 use Rattle.ada_scopes.specs.Example.{OutlastsWhileCalled}
+use Rattle.ada_scopes.proofs.Operations.{anywhere_nests}
 use Rattle.ada_scopes.proofs.Example.{steps, vec, no_name, access_kind, cell_of, access_to, of_type, creations_with, no_pools, contains_opened}
 
 -- A component, with the numbers of the first elementary component and of the first controlled part in it.
@@ -123,13 +124,16 @@ nests = record {
 finalize_nests : (around : List ℕ) → call_nests (slice_get (callees_from (program_form program).types [] (body_forms program)) 0) around ≡ true
 finalize_nests around = of_both (λ bs fs. call_nests (slice_get (callees_from (program_form program).types [] bs) 0) around) refl
 
+pub operations_nest_anywhere : OperationsNestAnywhere (program_form program)
+operations_nest_anywhere zero = (tt, tt, finalize_nests)
+operations_nest_anywhere (suc zero) = (tt, tt, tt)
+operations_nest_anywhere (suc (suc zero)) = (tt, tt, tt)
+operations_nest_anywhere (suc (suc (suc zero))) = (tt, tt, tt)
+operations_nest_anywhere (suc (suc (suc (suc zero)))) = (tt, tt, tt)
+operations_nest_anywhere (suc (suc (suc (suc (suc n))))) = (tt, tt, tt)
+
 pub operations_nest : OperationsNest (program_form program)
-operations_nest zero = (tt, tt, finalize_nests)
-operations_nest (suc zero) = (tt, tt, tt)
-operations_nest (suc (suc zero)) = (tt, tt, tt)
-operations_nest (suc (suc (suc zero))) = (tt, tt, tt)
-operations_nest (suc (suc (suc (suc zero)))) = (tt, tt, tt)
-operations_nest (suc (suc (suc (suc (suc n))))) = (tt, tt, tt)
+operations_nest = anywhere_nests (program_form program) operations_nest_anywhere
 
 -- What the main procedure owns once its newest collection is gone.
 abbrev oldest_item : List Item

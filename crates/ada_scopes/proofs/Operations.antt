@@ -1,4 +1,4 @@
--- The operations of a program's types, as the machine finds them by the number of a type, nest wherever they are called.
+-- The operations of a program's types, as the machine finds them by the number of a type, nest where they are called.
 
 use Rattle.std.proofs.Common.{◌≡◌, ℕ, zero, suc, ◌&&◌, Bool, true, false, if◌then◌else◌, List, [], ◌∷◌, map, Option, Some, None, refl, subst}
 use Rattle.std.specs.Prelude.{find}
@@ -9,10 +9,10 @@ use Rattle.ada_program.specs.declared.program.ProcedureNo.{ProcedureNo}
 use Rattle.ada_program.specs.declared.program.TypeDefinition.{TypeDefinition}
 use Rattle.ada_program.specs.declared.program.TypeDefinition.TheVariants as definition
 use Rattle.ada_program.specs.Controlled.{number_by, is_number, operations_in, operations_by, operations_of}
-use Rattle.ada_program.specs.Nested.{Callees, callees_of}
+use Rattle.ada_program.specs.Nested.{Callees, callees_of, collected}
 use Rattle.ada_program.specs.ProgramForm.{TypeForm, ProgramForm, type_form}
 use Rattle.ada_program.specs.WellFormed.{finalization_in, finalization_of, is_inherited, overrides_nothing, overrides_none}
-use Rattle.ada_scopes.specs.Scopes.{NestsAnywhere, AllNestAnywhere, OperationsNest}
+use Rattle.ada_scopes.specs.Scopes.{NestsWhereOpen, AllNestWhereOpen, NestsAnywhere, AllNestAnywhere, OperationsNest, OperationsNestAnywhere}
 use Rattle.ada_scopes.proofs.Counts.{and_left, and_right}
 
 -- What a type overrides stands in the program's form.
@@ -32,10 +32,29 @@ found_so : (P : Operations → Type 0) (test : TypeDefinition → Bool) (types :
 found_so P test [] all = all 0
 found_so P test (t ∷ types) all = found_here P (test t) t (find test types) (all 0) (found_so P test types (λ i. all (suc i)))
 
+-- Those that nest anywhere.
 pub operations_here : (callees : Callees) (types : List TypeDefinition) (n : ℕ) → ((t : ℕ) → AllNestAnywhere callees (operations_in (finalization_of (map type_form types) t))) → AllNestAnywhere callees (operations_of types n)
 operations_here callees types n all =
     found_so (AllNestAnywhere callees) (λ t. is_number n (number_by (Some t))) types
     (λ i. subst (λ (o : Operations). AllNestAnywhere callees o) (same_operations types i) (all i))
+
+-- Those that nest where these collections are open.
+pub operations_where_open : (opened : List ℕ) (callees : Callees) (types : List TypeDefinition) (n : ℕ) → ((t : ℕ) → AllNestWhereOpen opened callees (operations_in (finalization_of (map type_form types) t))) → AllNestWhereOpen opened callees (operations_of types n)
+operations_where_open opened callees types n all =
+    found_so (AllNestWhereOpen opened callees) (λ t. is_number n (number_by (Some t))) types
+    (λ i. subst (λ (o : Operations). AllNestWhereOpen opened callees o) (same_operations types i) (all i))
+
+-- Operations that nest anywhere do so where the collections of the main procedure are open.
+where_open : (opened : List ℕ) (callees : Callees) (o : Option ProcedureNo) → NestsAnywhere callees o → NestsWhereOpen opened callees o
+where_open opened callees None nests = tt
+where_open opened callees (Some procedure) nests = λ around open_there. nests around
+
+pub anywhere_nests : (p : ProgramForm) → OperationsNestAnywhere p → OperationsNest p
+anywhere_nests p all t = (
+  where_open (collected p.declarations) (callees_of p) (operations_in (finalization_of p.types t)).initialize (all t).0,
+  where_open (collected p.declarations) (callees_of p) (operations_in (finalization_of p.types t)).adjust (all t).1,
+  where_open (collected p.declarations) (callees_of p) (operations_in (finalization_of p.types t)).finalize (all t).2,
+)
 
 -- Where no type overrides an operation, all do.
 inherits : (callees : Callees) (o : Option ProcedureNo) → is_inherited o ≡ true → NestsAnywhere callees o
@@ -60,4 +79,4 @@ none_overridden callees (u ∷ types) (suc t) is =
     none_overridden callees types t (and_right (overrides_nothing (finalization_in (Some u))) (list_all (λ v. overrides_nothing (finalization_in (Some v))) types) is)
 
 pub none_nests : (p : ProgramForm) → overrides_none p ≡ true → OperationsNest p
-none_nests p is t = none_overridden (callees_of p) p.types t is
+none_nests p is = anywhere_nests p (λ t. none_overridden (callees_of p) p.types t is)

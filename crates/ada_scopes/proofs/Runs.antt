@@ -1,6 +1,6 @@
 -- Each state of a run nests, where the program is well formed and its collections and operations nest.
 
-use Rattle.std.proofs.Common.{◌≡◌, ℕ, ℤ, not, Bool, true, false, List, [], ◌∷◌, ◌++◌, arith, refl, ap, subst}
+use Rattle.std.proofs.Common.{◌≡◌, ℕ, ℤ, not, Bool, true, false, List, [], ◌∷◌, ◌++◌, arith, refl, ap, subst, inl}
 use Rattle.ada_program.specs.declared.program.Program.{Program}
 use Rattle.ada_program.specs.ProgramForm.{TypeForm, ProgramForm, program_form}
 use Rattle.ada_program.specs.WellFormed.{IsWellFormed, overrides_none}
@@ -12,7 +12,8 @@ use Rattle.ada_meaning.specs.Step.{halts, moves, tells, asks, picks}
 use Rattle.ada_meaning.specs.Named.{State, Next, next}
 use Rattle.ada_meaning.specs.Run.{Event, Choice, settled, grants, takes, Leads, Step, Run, here, there, first_state}
 use Rattle.ada_scopes.specs.Scopes.{OperationsNest}
-use Rattle.ada_scopes.proofs.Operations.{operations_here}
+use Rattle.ada_scopes.proofs.Counts.{times_append}
+use Rattle.ada_scopes.proofs.Operations.{operations_where_open}
 use Rattle.ada_scopes.proofs.Texts.{BodiesNest}
 use Rattle.ada_scopes.proofs.Bodies.{ProgramNests, program_nests}
 use Rattle.ada_scopes.proofs.Control.{Whole, Growing, Nested, beginning, grows}
@@ -34,7 +35,7 @@ none_called program of none = nothing_overridden program (not_false (overrides_n
 -- What each state of a run keeps: what its procedures create nests wherever the text calls them, and what is left to do nests.
 pub record Scoped (p : ProgramForm) (s : State) : Type 0 where
   pub bodies : BodiesNest p.types (callees_of p) p.bodies
-  pub nested : Nested p.types (callees_of p) (calls_in p) s
+  pub nested : Nested p.types (callees_of p) (collected p.declarations) (calls_in p) s
 
 append_nil : (us : List ℕ) → us ++ [] ≡ us
 append_nil [] = refl
@@ -44,7 +45,7 @@ nothing_yet : (types : List TypeForm) → Whole types [] [] []
 nothing_yet types = record { lone = λ t. omega arith; needs = tt; housed = λ o x at listed. absurd (cc at); fit = tt; records = tt; covers = tt; layered = tt; known = λ t le. absurd (omega (arith, le)) }
 
 -- The first state: the part of the main procedure begins.
-main_begins : (program : Program) (input : List ℤ) → ProgramNests (program_form program) → Nested (program_form program).types (callees_of (program_form program)) (calls_in (program_form program)) (first_state program input)
+main_begins : (program : Program) (input : List ℤ) → ProgramNests (program_form program) → Nested (program_form program).types (callees_of (program_form program)) (collected (program_form program).declarations) (calls_in (program_form program)) (first_state program input)
 main_begins program input nest =
     let p = program_form program in
     let first : Master = record { number = 0; items = [] } in
@@ -63,7 +64,7 @@ main_begins program input nest =
       growing = subst (λ (there : List ℕ). Growing p.types [] first [] [] p.declarations there) (append_nil (collected p.declarations)) (grows p.types [] 0 [] [] p.declarations [] nest.part (λ t. refl) (nothing_yet p.types));
       statements = nest.statements;
       handlers = nest.handlers;
-      nests = refl;
+      nests = inl (refl, refl, λ t le. let all = times_append t (collected p.declarations) [] in omega (arith, all, le));
     })
 
 pub first_nested : (program : Program) → IsWellFormed (program_form program) → CollectionsNest (program_form program) → (input : List ℤ) → Scoped (program_form program) (first_state program input)
@@ -71,20 +72,20 @@ first_nested program well nest input =
     let text = program_nests (program_form program) well nest in
     record { bodies = text.bodies; nested = main_begins program input text }
 
-led : (types : List TypeForm) (callees : Callees) (calling : Bool) (coming : Next) (choice : Choice) (e : Event) (after : State) → Good types callees calling coming → Leads coming choice e after → Nested types callees calling after
-led types callees calling (halts halt) choice e after g l = absurd l
-led types callees calling (moves shown s) settled e after g l = rw (l.1) g
-led types callees calling (tells request shown s) settled e after g l = rw (l.1) g
-led types callees calling (asks request answers) (grants granted) e after g l = rw (l.1) (g granted)
-led types callees calling (picks n taking) (takes i) e after g l = rw (l.2) (g i l.0)
-led types callees calling (moves shown s) (grants granted) e after g l = absurd l
-led types callees calling (moves shown s) (takes i) e after g l = absurd l
-led types callees calling (tells request shown s) (grants granted) e after g l = absurd l
-led types callees calling (tells request shown s) (takes i) e after g l = absurd l
-led types callees calling (asks request answers) settled e after g l = absurd l
-led types callees calling (asks request answers) (takes i) e after g l = absurd l
-led types callees calling (picks n taking) settled e after g l = absurd l
-led types callees calling (picks n taking) (grants granted) e after g l = absurd l
+led : (types : List TypeForm) (callees : Callees) (main : List ℕ) (calling : Bool) (coming : Next) (choice : Choice) (e : Event) (after : State) → Good types callees main calling coming → Leads coming choice e after → Nested types callees main calling after
+led types callees main calling (halts halt) choice e after g l = absurd l
+led types callees main calling (moves shown s) settled e after g l = rw (l.1) g
+led types callees main calling (tells request shown s) settled e after g l = rw (l.1) g
+led types callees main calling (asks request answers) (grants granted) e after g l = rw (l.1) (g granted)
+led types callees main calling (picks n taking) (takes i) e after g l = rw (l.2) (g i l.0)
+led types callees main calling (moves shown s) (grants granted) e after g l = absurd l
+led types callees main calling (moves shown s) (takes i) e after g l = absurd l
+led types callees main calling (tells request shown s) (grants granted) e after g l = absurd l
+led types callees main calling (tells request shown s) (takes i) e after g l = absurd l
+led types callees main calling (asks request answers) settled e after g l = absurd l
+led types callees main calling (asks request answers) (takes i) e after g l = absurd l
+led types callees main calling (picks n taking) settled e after g l = absurd l
+led types callees main calling (picks n taking) (grants granted) e after g l = absurd l
 
 -- A step keeps that, if operations nest where a treatment is what is done next: no other step calls one.
 pub step_nested : (program : Program) (s after : State) (choice : Choice) (e : Event) → (TreatsFirst s.control → OperationsNest (program_form program)) → Scoped (program_form program) s → Step program s choice e after → Scoped (program_form program) after
@@ -93,8 +94,9 @@ step_nested program s after choice e operations scoped step =
     let types = program.types.items in
     record {
       bodies = scoped.bodies;
-      nested = led p.types (callees_of p) (calls_in p) (next types p.bodies s) choice e after
-          (next_good p.types (callees_of p) (calls_in p) p.bodies scoped.bodies types s (λ first of. (operations_here (callees_of p) types of (operations first), none_called program of)) scoped.nested) step;
+      nested = led p.types (callees_of p) (collected p.declarations) (calls_in p) (next types p.bodies s) choice e after
+          (next_good p.types (callees_of p) (collected p.declarations) (calls_in p) p.bodies scoped.bodies types s
+          (λ first of. (operations_where_open (collected p.declarations) (callees_of p) types of (operations first), none_called program of)) scoped.nested) step;
     }
 
 run_nested : (program : Program) (s last : State) (events : List Event) → OperationsNest (program_form program) → Scoped (program_form program) s → Run program s events last → Scoped (program_form program) last

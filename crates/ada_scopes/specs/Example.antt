@@ -12,7 +12,7 @@ use Rattle.ada_meaning.specs.State.{declared, collection, Item, Master}
 use Rattle.ada_meaning.specs.Named.{Object, State}
 use Rattle.ada_meaning.specs.Law.{items_of}
 use Rattle.ada_order.specs.Example.{InSomeRun}
-use Rattle.ada_scopes.specs.Scopes.{InItsRuns, CollectTwoTypes, AreObjectsFirst, OperationsNest, lasting, IsOpenIn, IsListed, HoldsNames, ComponentsAreOutlivedIn}
+use Rattle.ada_scopes.specs.Scopes.{InItsRuns, CollectTwoTypes, AreObjectsFirst, OperationsNest, OperationsNestAnywhere, lasting, IsOpenIn, IsListed, HoldsNames, ComponentsAreOutlivedIn}
 
 -- A block, or the body of a procedure, is entered inside the main procedure. An object's first component is of an access type of the main procedure, and
 -- its second one of an access type of the block or of the body.
@@ -102,6 +102,13 @@ abbrev pub OperationsAreCalled : Type 0
 OperationsAreCalled =
     (program : Program) × IsWellFormed (program_form program) × CollectionsNest (program_form program)
     × OperationsNest (program_form program) × InSomeRun program (λ events last. OutlastsWhileCalled program last)
+
+-- A well-formed program whose collections and operations nest has an operation that does not nest just anywhere: a Finalize declares a record object with a
+-- component of an access type of the main procedure.
+abbrev pub OperationsMayFindOpen : Type 0
+OperationsMayFindOpen =
+    (program : Program) × IsWellFormed (program_form program) × CollectionsNest (program_form program)
+    × OperationsNest (program_form program) × (OperationsNestAnywhere (program_form program) → ⊥)
 
 -- A well-formed program whose collections nest has a run that comes to two collections of one access type: a Finalize creates one, and then it is called for
 -- an object of its own.

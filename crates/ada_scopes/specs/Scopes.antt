@@ -10,7 +10,7 @@ use Rattle.ada_program.specs.declared.program.VariableKind.TheVariants as variab
 use Rattle.ada_program.specs.Controlled.{operations_in}
 use Rattle.ada_program.specs.ProgramForm.{TypeForm, ProgramForm, program_form}
 use Rattle.ada_program.specs.WellFormed.{IsWellFormed, overrides_none, finalization_of, reached_components, kind_among}
-use Rattle.ada_program.specs.Nested.{Callees, call_nests, callees_of, CollectionsNest}
+use Rattle.ada_program.specs.Nested.{Callees, call_nests, callees_of, collected, is_one_of, CollectionsNest}
 use Rattle.ada_meaning.specs.declared.state.Id.{Id}
 use Rattle.ada_meaning.specs.declared.state.Value.{Value}
 use Rattle.ada_meaning.specs.declared.state.Value.TheVariants.{Names}
@@ -27,6 +27,28 @@ abbrev pub InItsRuns : Program → (State → Type 0) → Type 0
 InItsRuns program P =
     (input : List ℤ) (events : List Event) (last : State) → Run program (first_state program input) events last → P last
 
+-- A procedure that overrides an operation, if one does, nests wherever these collections are open, whatever else is: what it and the procedures that it calls
+-- create is no collection, and no record object whose components hold values of other access types.
+abbrev pub NestsWhereOpen : (opened : List ℕ) → Callees → Option ProcedureNo → Type 0
+NestsWhereOpen opened callees None = Unit {0}
+NestsWhereOpen opened callees (Some procedure) =
+    (around : List ℕ) → ((t : ℕ) → is_one_of opened t ≡ true → is_one_of around t ≡ true) → call_nests (slice_get callees procedure.0) around ≡ true
+
+-- So does each operation of a type.
+abbrev pub AllNestWhereOpen : (opened : List ℕ) → Callees → Operations → Type 0
+AllNestWhereOpen opened callees o =
+    NestsWhereOpen opened callees o.initialize × NestsWhereOpen opened callees o.adjust × NestsWhereOpen opened callees o.finalize
+
+-- So does each operation of the types of a program (7.6), where the collections are open that the main procedure declares: an operation is called where an
+-- object is created, assigned to, freed or left, whatever else is open there.
+abbrev pub OperationsNest : ProgramForm → Type 0
+OperationsNest p = (t : ℕ) → AllNestWhereOpen (collected p.declarations) (callees_of p) (operations_in (finalization_of p.types t))
+
+-- Each program that is well formed, and whose collections and operations nest, has a property.
+abbrev pub WhereCollectionsNest : (Program → Type 0) → Type 0
+WhereCollectionsNest P =
+    (program : Program) → IsWellFormed (program_form program) → CollectionsNest (program_form program) → OperationsNest (program_form program) → P program
+
 -- A procedure that overrides an operation, if one does, nests wherever it is called: what it and the procedures that it calls create is no collection, and
 -- no record object whose components hold access values.
 abbrev pub NestsAnywhere : Callees → Option ProcedureNo → Type 0
@@ -37,16 +59,18 @@ NestsAnywhere callees (Some procedure) = (around : List ℕ) → call_nests (sli
 abbrev pub AllNestAnywhere : Callees → Operations → Type 0
 AllNestAnywhere callees o = NestsAnywhere callees o.initialize × NestsAnywhere callees o.adjust × NestsAnywhere callees o.finalize
 
--- So does each operation of the types of a program (7.6): it is called where an object is created, assigned to, freed or left, whatever is open there.
-abbrev pub OperationsNest : ProgramForm → Type 0
-OperationsNest p = (t : ℕ) → AllNestAnywhere (callees_of p) (operations_in (finalization_of p.types t))
+-- So does each operation of the types of a program.
+abbrev pub OperationsNestAnywhere : ProgramForm → Type 0
+OperationsNestAnywhere p = (t : ℕ) → AllNestAnywhere (callees_of p) (operations_in (finalization_of p.types t))
 
--- Each program that is well formed, and whose collections and operations nest, has a property.
-abbrev pub WhereCollectionsNest : (Program → Type 0) → Type 0
-WhereCollectionsNest P =
-    (program : Program) → IsWellFormed (program_form program) → CollectionsNest (program_form program) → OperationsNest (program_form program) → P program
+-- Each program that is well formed, whose collections nest, and whose operations nest anywhere, has a property.
+abbrev pub WhereOperationsNestAnywhere : (Program → Type 0) → Type 0
+WhereOperationsNestAnywhere P =
+    (program : Program) → IsWellFormed (program_form program) → CollectionsNest (program_form program) → OperationsNestAnywhere (program_form program)
+    → P program
 
--- A property of states holds in the runs of each such program none of whose types overrides an operation: operations nest then.
+-- A property of states holds in the runs of each program that is well formed, whose collections nest, and none of whose types overrides an operation:
+-- operations nest then.
 abbrev pub WhereNothingIsCalled : (State → Type 0) → Type 0
 WhereNothingIsCalled P =
     (program : Program) → IsWellFormed (program_form program) → CollectionsNest (program_form program) → overrides_none (program_form program) ≡ true → InItsRuns program P

@@ -3,7 +3,7 @@
 ghost use Rattle.ada_scopes.specs.Example.{CollectionsOfBlocksNest, CollectionsOfCallsNest};
 ghost use Rattle.ada_scopes.specs.Example.{ObjectsLieAbove, OrderIsNeeded};
 ghost use Rattle.ada_scopes.specs.Example.{CollectionsGoOneByOne, NestingIsNeeded, OperationsAreCalled};
-ghost use Rattle.ada_scopes.specs.Example.{OperationsMustNest, OperationsMustFindOpen};
+ghost use Rattle.ada_scopes.specs.Example.{OperationsMayFindOpen, OperationsMustNest, OperationsMustFindOpen};
 ghost use Rattle.ada_scopes.specs.Scopes.{TypesHaveOneCollection, ObjectsLieInCollections, ComponentsAreOutlived};
 ghost use Rattle.ada_scopes.specs.Scopes.{ObjectsGoFirst};
 ghost use Rattle.ada_scopes.specs.Scopes.{NamesStayOutside, InnermostIsNotNamed, OnlyInnermostIsLeft};
@@ -77,6 +77,12 @@ pub fn collections_go_one_by_one()
 /// innermost master may be being left.
 pub fn operations_are_called()
     ensures { OperationsAreCalled }
+{}
+
+/// An operation may create record objects with components of access types that the main procedure declares: it need not nest
+/// where the collections of these are not open.
+pub fn operations_may_find_open()
+    ensures { OperationsMayFindOpen }
 {}
 
 /// That operations nest is needed: where a Finalize creates a collection and an object of its own type, it is called while

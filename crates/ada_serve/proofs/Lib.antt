@@ -6,10 +6,6 @@ pub mod Writing
 pub mod Past
 -- the runner's run, step by step
 pub mod Steps
--- what calls of operations cost settles where each leads to earlier ones alone
-pub mod Settled
--- operations that are in use lead to earlier ones alone
-pub mod Plain
 -- the number that a word gives
 pub mod Numbers
 -- from what is kept of an input to its numbers

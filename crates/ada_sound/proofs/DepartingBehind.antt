@@ -313,15 +313,16 @@ first_houses (Leaves mode ∷ k) heap (m ∷ ms) falls housed = newest_houses he
 first_houses k heap ms falls housed = tt
 
 -- Where collections nest, each object that is in its collection has that among the items.
-nested_housed : (types : List TypeForm) (callees : Callees) (calling : Bool) (s : State) → nesting.Nested types callees calling s → Housed s.heap (items_of s.masters)
-nested_housed types callees calling s (nesting.standing ss w n) = w.housed
-nested_housed types callees calling s (nesting.beginning b) =
+nested_housed : (types : List TypeForm) (callees : Callees) (main : List ℕ) (calling : Bool) (s : State) → nesting.Nested types callees main calling s → Housed s.heap (items_of s.masters)
+nested_housed types callees main calling s (nesting.standing ss w n) = w.housed
+nested_housed types callees main calling s (nesting.beginning b) =
     subst (λ (ms : List Master). Housed s.heap (items_of ms)) (sym b.masters) (housed_after s.heap b.m.items (items_of b.rest) b.growing.housed)
-nested_housed types callees calling s (nesting.parting ss w runs goes) = w.housed
+nested_housed types callees main calling s (nesting.parting ss w runs goes) = w.housed
+nested_housed types callees main calling s (nesting.resting ss w none done) = w.housed
 
 -- So in such a state each object that goes with the newest item of a master that is left is of that item's type.
 pub scoped_houses : (p : ProgramForm) (s : State) → Scoped p s → AllPairs Falls (items_of s.masters) → FirstHousesIts s.control s.heap s.masters
-scoped_houses p s scoped falls = first_houses s.control s.heap s.masters falls (nested_housed p.types _ _ s scoped.nested)
+scoped_houses p s scoped falls = first_houses s.control s.heap s.masters falls (nested_housed p.types _ _ _ s scoped.nested)
 
 -- What is left of a member is the same, however it is told.
 ending_is :

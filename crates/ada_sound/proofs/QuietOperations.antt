@@ -1,5 +1,5 @@
--- What overrides an operation is plain or frugal (7.6): so it creates no collection, no record object that names something, and calls frugal bodies alone. One
--- that is quiet lets no exception out, either.
+-- What overrides an operation is plain or frugal (7.6): so it creates no collection, no record object that names something in a collection of an inner part,
+-- and calls frugal bodies alone. One that is quiet lets no exception out, either.
 
 use Rattle.std.proofs.Common.{◌≡◌, ℕ, zero, suc, ◌+◌, Bool, true, false, ◌&&◌, ◌||◌, if◌then◌else◌, List, [], ◌∷◌, ◌++◌, length, map, refl, sym, ap, ◌∙◌, arith, length-append, ◌⊎◌, inl, inr}
 use Rattle.std.specs.Prelude.{Option, Some, None, find, is_some}
@@ -21,10 +21,9 @@ use Rattle.ada_program.specs.WellFormed.{IsWellFormed, profile_of, callable_in, 
 use Rattle.ada_effects.specs.Effects.{no_calls, body_raises}
 use Rattle.ada_flow.specs.Flow.{have_exit, handlers_have_exit}
 use Rattle.ada_typed.proofs.Bodies.{seen_as, seen_fits}
-use Rattle.ada_scopes.specs.Scopes.{NestsAnywhere, AllNestAnywhere, OperationsNest}
+use Rattle.ada_scopes.specs.Scopes.{NestsWhereOpen, AllNestWhereOpen, OperationsNest}
 use Rattle.ada_quiet.specs.Apart.{is_this_one, is_adjust_of}
 use Rattle.ada_quiet.specs.Quiet.{is_quiet_stmt, are_quiet, are_quiet_branches, are_quiet_handlers, are_quiet_declarations, is_plain_body, is_quiet_body, is_plain_procedure, is_quiet_procedure, is_plain_operation, is_quiet_operation, has_access, operation_body}
-use Rattle.ada_quiet.specs.Earlier.{declares_earlier_parts}
 use Rattle.ada_quiet.specs.Frugal.{is_frugal_body, frugal_procedures, thrift_of, is_frugal_operation}
 use Rattle.ada_quiet.specs.InUse.{may_be_frugal, uses_initialize, uses_finalize, uses_operations, operations_may_be_called, adjusts_alone, adjusts_nothing, may_track, uses_adjust, uses_called_adjust}
 use Rattle.ada_quiet.specs.Idle.{copies_parts}
@@ -169,9 +168,7 @@ module _ (p : ProgramForm) where
   frugal_one : (o : Option ProcedureNo) (number : ℕ) → is_frugal_operation p o ≡ true → procedure_number o ≡ Some number
       → slice_index_or (frugal_procedures p) number false ≡ true
   frugal_one None number frugal is = absurd (cc is)
-  frugal_one (Some procedure) number frugal is =
-      let same : procedure.0 ≡ number = cc is in
-      rw same at (apart (slice_index_or (frugal_procedures p) procedure.0 false) (declares_earlier_parts p procedure.0 (slice_get p.bodies procedure.0)) frugal).0
+  frugal_one (Some procedure) number frugal is = let same : procedure.0 ≡ number = cc is in rw same at frugal
 
   finalize_one : (o : Option ProcedureNo) (number : ℕ) → uses_finalize p o ≡ true → procedure_number o ≡ Some number → IsQuiet number ⊎ (IsFrugal number × IsNotQuiet number)
   finalize_one o number uses is = by (is_quiet_operation p o) refl uses
@@ -262,7 +259,7 @@ module _ (p : ProgramForm) where
       let same : procedure.0 ≡ number = cc said in
       rw same at (there_by t procedure.0 (slice_get p.bodies procedure.0) refl (ap (is_operation p.types t) (sym (slice_get-map profile_of p.bodies procedure.0)) ∙ is))
 
-  -- Wherever it is called, what it creates nests.
+  -- Wherever it is called, what it creates nests, where the main procedure's collections are open.
   stays_there : (before : Callees) (bs : List BodyForm) (i : ℕ) (nests : List ℕ → Bool) → slice_get before i ≡ Some nests → slice_get (callees_from p.types before bs) i ≡ Some nests
   stays_there before [] i nests is = is
   stays_there before (b ∷ bs) i nests is = stays_there (before ++ body_nests p.types before b ∷ []) bs i nests (before_more before (body_nests p.types before b) i nests is)
@@ -295,43 +292,50 @@ module _ (p : ProgramForm) where
       let found : slice_get (callees_of p) number ≡ Some (body_nests p.types c.0 b) = rw at at c.1 in
       rw found (nests c.0 around)
 
-  plain_nests : (t : ℕ) (o : Option ProcedureNo) → overrides_rightly p.types (callable_in p) t o ≡ true → is_plain_operation p o ≡ true → NestsAnywhere (callees_of p) o
+  abbrev Nests : Option ProcedureNo → Type 0
+  Nests o = NestsWhereOpen (collected p.declarations) (callees_of p) o
+
+  abbrev AllNest : Operations → Type 0
+  AllNest o = AllNestWhereOpen (collected p.declarations) (callees_of p) o
+
+  plain_nests : (t : ℕ) (o : Option ProcedureNo) → overrides_rightly p.types (callable_in p) t o ≡ true → is_plain_operation p o ≡ true → Nests o
   plain_nests t None right plain = tt
   plain_nests t (Some procedure) right plain =
       let b = there_one t (Some procedure) procedure.0 right refl in
-      nests_there procedure.0 b.0 b.1 (λ callees around. body_is p.types callees b.0 around (rw (b.1) at plain))
+      λ around all. nests_there procedure.0 b.0 b.1 (λ callees around'. body_is p.types callees b.0 around' (rw (b.1) at plain)) around
 
-  initialize_nests : (t : ℕ) (o : Option ProcedureNo) → overrides_rightly p.types (callable_in p) t o ≡ true → uses_initialize p o ≡ true → NestsAnywhere (callees_of p) o
+  initialize_nests : (t : ℕ) (o : Option ProcedureNo) → overrides_rightly p.types (callable_in p) t o ≡ true → uses_initialize p o ≡ true → Nests o
   initialize_nests t None right uses = tt
   initialize_nests t (Some procedure) right uses = by (initialize_one (Some procedure) procedure.0 uses refl)
     where
-      by : IsPlain procedure.0 ⊎ (IsFrugal procedure.0 × IsNotPlain procedure.0) → NestsAnywhere (callees_of p) (Some procedure)
+      by : IsPlain procedure.0 ⊎ (IsFrugal procedure.0 × IsNotPlain procedure.0) → Nests (Some procedure)
       by (inl plain) = plain_nests t (Some procedure) right plain
       by (inr both) = frugal_nests p procedure.0 both.0.1
 
-  finalize_nests : (t : ℕ) (o : Option ProcedureNo) → overrides_rightly p.types (callable_in p) t o ≡ true → uses_finalize p o ≡ true → NestsAnywhere (callees_of p) o
+  finalize_nests : (t : ℕ) (o : Option ProcedureNo) → overrides_rightly p.types (callable_in p) t o ≡ true → uses_finalize p o ≡ true → Nests o
   finalize_nests t None right uses = tt
   finalize_nests t (Some procedure) right uses = by (finalize_one (Some procedure) procedure.0 uses refl)
     where
-      by : IsQuiet procedure.0 ⊎ (IsFrugal procedure.0 × IsNotQuiet procedure.0) → NestsAnywhere (callees_of p) (Some procedure)
+      by : IsQuiet procedure.0 ⊎ (IsFrugal procedure.0 × IsNotQuiet procedure.0) → Nests (Some procedure)
       by (inl quiet) = plain_nests t (Some procedure) right (plain_operation p (Some procedure) quiet)
       by (inr both) = frugal_nests p procedure.0 both.0.1
 
-  adjust_nests : (t : ℕ) (owns : Bool) (o : Option ProcedureNo) → overrides_rightly p.types (callable_in p) t o ≡ true → uses_adjust p owns o ≡ true → NestsAnywhere (callees_of p) o
+  adjust_nests : (t : ℕ) (owns : Bool) (o : Option ProcedureNo) → overrides_rightly p.types (callable_in p) t o ≡ true → uses_adjust p owns o ≡ true → Nests o
   adjust_nests t owns None right uses = tt
   adjust_nests t owns (Some procedure) right uses = either (or_cases (adjusts_nothing p && is_frugal_operation p (Some procedure)) (uses_called_adjust p owns (Some procedure)) uses)
     where
-      by : IsQuiet procedure.0 ⊎ (IsSimple procedure.0 × (owns ≡ true)) → NestsAnywhere (callees_of p) (Some procedure)
+      by : IsQuiet procedure.0 ⊎ (IsSimple procedure.0 × (owns ≡ true)) → Nests (Some procedure)
       by (inl quiet) = plain_nests t (Some procedure) right (plain_operation p (Some procedure) quiet)
-      by (inr both) = let b = there_one t (Some procedure) procedure.0 right refl in nests_there procedure.0 b.0 b.1 (λ callees around. simple_nests p.types callees b.0 around (simple_with p.types (adjusts_alone p) b.0 (rw (b.1) at both.0.1)))
+      by (inr both) =
+          let b = there_one t (Some procedure) procedure.0 right refl in
+          let simple = simple_with p.types (adjusts_alone p) b.0 (rw (b.1) at both.0.1) in
+          λ around all. nests_there procedure.0 b.0 b.1 (λ callees around'. simple_nests p.types callees b.0 around' simple) around
 
-      either : ((adjusts_nothing p && is_frugal_operation p (Some procedure)) ≡ true) ⊎ (uses_called_adjust p owns (Some procedure) ≡ true) → NestsAnywhere (callees_of p) (Some procedure)
-      either (inl nothing) =
-          let frugal = (apart (adjusts_nothing p) (is_frugal_operation p (Some procedure)) nothing).1 in
-          frugal_nests p procedure.0 (apart (slice_index_or (frugal_procedures p) procedure.0 false) (declares_earlier_parts p procedure.0 (slice_get p.bodies procedure.0)) frugal).0
+      either : ((adjusts_nothing p && is_frugal_operation p (Some procedure)) ≡ true) ⊎ (uses_called_adjust p owns (Some procedure) ≡ true) → Nests (Some procedure)
+      either (inl nothing) = frugal_nests p procedure.0 (apart (adjusts_nothing p) (is_frugal_operation p (Some procedure)) nothing).1
       either (inr called) = by (adjust_one owns (Some procedure) procedure.0 called refl)
 
-  nests_three : (t : ℕ) (owns : Bool) (f : Option Finalization) → has_operations p.types (callable_in p) t f ≡ true → uses_operations p owns f ≡ true → AllNestAnywhere (callees_of p) (operations_in f)
+  nests_three : (t : ℕ) (owns : Bool) (f : Option Finalization) → has_operations p.types (callable_in p) t f ≡ true → uses_operations p owns f ≡ true → AllNest (operations_in f)
   nests_three t owns None right uses = (tt, tt, tt)
   nests_three t owns (Some f) right uses =
       let two = apart _ _ right in
@@ -340,7 +344,7 @@ module _ (p : ProgramForm) where
       let uses_three = apart _ _ uses_two.0 in
       (initialize_nests t f.operations.initialize three.0 uses_three.0, adjust_nests t owns f.operations.adjust three.1 uses_three.1, finalize_nests t f.operations.finalize two.1 uses_two.1)
 
-  nests_at : (ts : List TypeForm) (n i : ℕ) → have_operations p.types (callable_in p) n ts ≡ true → list_all (λ t. uses_operations p (has_access (Some t)) (finalization_in (Some t))) ts ≡ true → AllNestAnywhere (callees_of p) (operations_in (finalization_in (slice_get ts i)))
+  nests_at : (ts : List TypeForm) (n i : ℕ) → have_operations p.types (callable_in p) n ts ≡ true → list_all (λ t. uses_operations p (has_access (Some t)) (finalization_in (Some t))) ts ≡ true → AllNest (operations_in (finalization_in (slice_get ts i)))
   nests_at [] n i right uses = (tt, tt, tt)
   nests_at (t ∷ ts) n zero right uses = nests_three n (has_access (Some t)) (finalization_in (Some t)) (apart _ _ right).0 (apart _ _ uses).0
   nests_at (t ∷ ts) n (suc i) right uses = nests_at ts (1 + n) i (apart _ _ right).1 (apart _ _ uses).1

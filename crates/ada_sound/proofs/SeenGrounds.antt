@@ -5,7 +5,7 @@ use Rattle.std.proofs.Common.{◌≡◌, ◌<◌, ℕ, Bool, true, false, not, L
 use Rattle.ada_program.specs.declared.program.Program.{Program}
 use Rattle.ada_program.specs.declared.program.TypeDefinition.{TypeDefinition}
 use Rattle.ada_program.specs.Form.{DeclarationForm, StmtsForm, HandlersForm}
-use Rattle.ada_program.specs.Nested.{Callees, callees_of}
+use Rattle.ada_program.specs.Nested.{Callees, callees_of, collected}
 use Rattle.ada_program.specs.ProgramForm.{TypeForm, BodyForm, ProgramForm, program_form, body_forms, seen_in}
 use Rattle.ada_program.specs.WellFormed.{is_access}
 use Rattle.ada_deeds.specs.Implicit.{implicit_of}
@@ -35,7 +35,7 @@ use Rattle.ada_quiet.specs.Idle.{holds_parts}
 use Rattle.ada_reaching.specs.Apart.{Apart}
 use Rattle.ada_reaching.specs.Law.{none_hidden}
 use Rattle.ada_reaching.specs.Reaching.{AreLow, IsOfShunned, IsReaching, OperandSeeks, Seeks, none_unnamed}
-use Rattle.ada_scopes.proofs.Control.{Nested, standing, beginning, parting, whole_heap}
+use Rattle.ada_scopes.proofs.Control.{Nested, standing, beginning, parting, resting, whole_heap}
 use Rattle.ada_scopes.proofs.Homes.{HasHome, Housed, IsAtHome}
 use Rattle.ada_scopes.proofs.Runs.{Scoped, calls_in}
 use Rattle.ada_typed.proofs.Control as typed
@@ -144,9 +144,9 @@ module _ {access item : ℕ} {pool : Option ℕ} {ghosts : Id → Bool} {s v : S
       by false plain = housed o x (sym (seen_at seen o plain) ∙ found) listed
 
   -- Collections nest.
-  nested_seen : (types : List TypeForm) (callees : Callees) (calling : Bool) → HasHomeThere access item pool s → Nested types callees calling s → Nested types callees calling (record s { heap = v.heap })
-  nested_seen types callees calling home (standing ss w n) = standing ss (whole_heap types ss s.masters s.heap v.heap (housed_seen (items_of s.masters) home.home w.housed) w) n
-  nested_seen types callees calling home (beginning b) = beginning (record {
+  nested_seen : (types : List TypeForm) (callees : Callees) (main : List ℕ) (calling : Bool) → HasHomeThere access item pool s → Nested types callees main calling s → Nested types callees main calling (record s { heap = v.heap })
+  nested_seen types callees main calling home (standing ss w n) = standing ss (whole_heap types ss s.masters s.heap v.heap (housed_seen (items_of s.masters) home.home w.housed) w) n
+  nested_seen types callees main calling home (beginning b) = beginning (record {
     ss = b.ss;
     m = b.m;
     rest = b.rest;
@@ -180,12 +180,14 @@ module _ {access item : ℕ} {pool : Option ℕ} {ghosts : Id → Bool} {s v : S
     handlers = b.handlers;
     nests = b.nests;
   })
-  nested_seen types callees calling home (parting ss w runs goes) = parting ss (whole_heap types ss s.masters s.heap v.heap (housed_seen (items_of s.masters) home.home w.housed) w) runs goes
+  nested_seen types callees main calling home (parting ss w runs goes) = parting ss (whole_heap types ss s.masters s.heap v.heap (housed_seen (items_of s.masters) home.home w.housed) w) runs goes
+  nested_seen types callees main calling home (resting ss w none ends) = resting ss (whole_heap types ss s.masters s.heap v.heap (housed_seen (items_of s.masters) home.home w.housed) w) none ends
 
   pub seen_scoped : (p : ProgramForm) → HasHomeThere access item pool s → Scoped p s → Scoped p v
   seen_scoped p home scoped = record {
     bodies = scoped.bodies;
-    nested = subst (λ (z : State). Nested p.types (callees_of p) (calls_in p) z) (sym seen.alike.rest) (nested_seen p.types (callees_of p) (calls_in p) home scoped.nested);
+    nested = subst (λ (z : State). Nested p.types (callees_of p) (collected p.declarations) (calls_in p) z) (sym seen.alike.rest)
+        (nested_seen p.types (callees_of p) (collected p.declarations) (calls_in p) home scoped.nested);
   }
 
   -- Bodies that shun the access type run.

@@ -102,10 +102,10 @@ pub record IsChecked (program : Program) : Type 0 where
   pub well_formed : IsWellFormed (program_form program)
   -- what overrides an operation of a controlled type touches Integers and Booleans alone, and calls nothing, and no exception comes out of such an Adjust or
   -- Finalize by its text (7.6); where all that has controlled parts lies in declared objects, or collections are created in order, Initialize and Finalize may
-  -- also move, follow and free, and call what does so alone, and Initialize may also allocate, and declare record objects of Integers and Booleans; and Adjust
-  -- of a type that declares components of access types may allocate, move, follow and free, so that these own what they name, or are null, where no component
-  -- names an object with a part that has such an Adjust; an Adjust allocates and frees no object with controlled parts; where no Adjust is called, a frugal one
-  -- is in use; and where none is called, each operation is
+  -- also move, follow and free, declare record objects whose components name objects of the main procedure's collections alone, and call what does so alone, and
+  -- Initialize may also allocate; and Adjust of a type that declares components of access types may allocate, move, follow and free, so that these own what they
+  -- name, or are null, where no component names an object with a part that has such an Adjust; an Adjust allocates and frees no object with controlled parts;
+  -- where no Adjust is called, a frugal one is in use; and where none is called, each operation is
   pub in_use : operations_are_in_use (program_form program) ≡ true
   -- no object lies in a collection that lasts longer than one in which its components' objects lie (3.10.2, 7.6.1)
   pub nests : CollectionsNest (program_form program)

@@ -10,6 +10,7 @@ use Rattle.ada_flow.specs.declared.rule.Rule.{Rule}
 use Rattle.ada_program.specs.declared.program.Program.{Program}
 use Rattle.ada_tree.specs.Statements.{UnitTree, IsTextOf}
 use Rattle.ada_program.specs.ProgramForm.{ProgramForm, program_form}
+use Rattle.ada_circles.specs.Circles.{HasCircle}
 use Rattle.ada_deeds.specs.Implicit.{implicit_of}
 use Rattle.ada_flow.specs.Flow.{Outcome, faults, goes, Holds, flow_of, program_flow, ObeysRules}
 use Rattle.ada_flow.specs.Told.{breach_of, judgement, IsFirstFault as IsFirstFlowFault}
@@ -180,6 +181,7 @@ no_early tokens text tree syntax source (verdict.Flow f) early b p a = absurd (c
 -- What is first unused obeys the rules of flow.
 unused_obeys : (p : Program) (f : UnusedFault) → IsFirstUnused p f → ObeysRules p
 unused_obeys p (unused.Operation spot) first = first.0
+unused_obeys p (unused.Circle spot) first = first.0
 unused_obeys p (unused.Holder spot) first = first.0
 unused_obeys p unused.NoMemory first = first
 
@@ -297,8 +299,10 @@ no_first tokens text tree syntax source (verdict.Operations (operations.Broken s
 no_first tokens text tree syntax source (verdict.Operations operations.NoMemory) b p a = refl
 no_first tokens text tree syntax source (verdict.Unused (unused.Operation spot)) b p a =
     no_place HasUnused (program_form b.0) (program_form p) spot (one_program tokens tree source b.0 p b.1 a.0) b.2.2.1 a.1.3.0
+no_first tokens text tree syntax source (verdict.Unused (unused.Circle spot)) b p a =
+    no_place HasCircle (program_form b.0) (program_form p) spot (one_program tokens tree source b.0 p b.1 a.0) b.2.2.2 a.1.3.1
 no_first tokens text tree syntax source (verdict.Unused (unused.Holder spot)) b p a =
-    no_freed b.0 p spot (one_program tokens tree source b.0 p b.1 a.0) b.2.2.2 a.1.3.1
+    no_freed b.0 p spot (one_program tokens tree source b.0 p b.1 a.0) b.2.2.2.1 a.1.3.2
 no_first tokens text tree syntax source (verdict.Unused unused.NoMemory) b p a = refl
 no_first tokens text tree syntax source (verdict.Flow (flow.Broken spot rule)) b p a =
     obeys_none p spot rule (same_judgement p b.0 (one_program tokens tree source p b.0 a.0 b.1) ∙ b.2.2) a.1.2
@@ -369,10 +373,22 @@ late_one tokens tree source (verdict.Unused (unused.Operation spot)) (verdict.Un
     one_place HasUnused (program_form a.0) (program_form b.0) spot other (one_program tokens tree source a.0 b.0 a.1 b.1) a.2.2.1 b.2.2.1 rules.NOT_IN_PROFILE.now
 late_one tokens tree source (verdict.Unused (unused.Operation spot)) (verdict.Unused (unused.Holder other)) x y a b n m =
     no_place HasUnused (program_form a.0) (program_form b.0) spot (one_program tokens tree source a.0 b.0 a.1 b.1) a.2.2.1 b.2.2.1
+late_one tokens tree source (verdict.Unused (unused.Operation spot)) (verdict.Unused (unused.Circle other)) x y a b n m =
+    no_place HasUnused (program_form a.0) (program_form b.0) spot (one_program tokens tree source a.0 b.0 a.1 b.1) a.2.2.1 b.2.2.1
 late_one tokens tree source (verdict.Unused (unused.Holder other)) (verdict.Unused (unused.Operation spot)) x y a b n m =
     no_place HasUnused (program_form b.0) (program_form a.0) spot (one_program tokens tree source b.0 a.0 b.1 a.1) b.2.2.1 a.2.2.1
+late_one tokens tree source (verdict.Unused (unused.Circle other)) (verdict.Unused (unused.Operation spot)) x y a b n m =
+    no_place HasUnused (program_form b.0) (program_form a.0) spot (one_program tokens tree source b.0 a.0 b.1 a.1) b.2.2.1 a.2.2.1
+late_one tokens tree source (verdict.Unused (unused.Circle spot)) (verdict.Unused (unused.Circle other)) x y a b n m =
+    one_place HasCircle (program_form a.0) (program_form b.0) spot other (one_program tokens tree source a.0 b.0 a.1 b.1) a.2.2.2 b.2.2.2
+    rules.NOT_IN_PROFILE.now
+late_one tokens tree source (verdict.Unused (unused.Circle spot)) (verdict.Unused (unused.Holder other)) x y a b n m =
+    no_place HasCircle (program_form a.0) (program_form b.0) spot (one_program tokens tree source a.0 b.0 a.1 b.1) a.2.2.2 b.2.2.2.0
+late_one tokens tree source (verdict.Unused (unused.Holder other)) (verdict.Unused (unused.Circle spot)) x y a b n m =
+    no_place HasCircle (program_form b.0) (program_form a.0) spot (one_program tokens tree source b.0 a.0 b.1 a.1) b.2.2.2 a.2.2.2.0
 late_one tokens tree source (verdict.Unused (unused.Holder spot)) (verdict.Unused (unused.Holder other)) x y a b n m =
-    one_freed (program_form a.0) (program_form b.0) spot other (one_program tokens tree source a.0 b.0 a.1 b.1) a.2.2.2 b.2.2.2 rules.NOT_IN_PROFILE.now
+    one_freed (program_form a.0) (program_form b.0) spot other (one_program tokens tree source a.0 b.0 a.1 b.1) a.2.2.2.1 b.2.2.2.1
+    rules.NOT_IN_PROFILE.now
 late_one tokens tree source (verdict.Unused f) (verdict.Flow (flow.Broken other rule)) x y a b n m =
     obeys_none a.0 other rule (same_judgement a.0 b.0 (one_program tokens tree source a.0 b.0 a.1 b.1) ∙ b.2.2) (unused_obeys a.0 f a.2.2)
 late_one tokens tree source (verdict.Flow f) (verdict.Operations (operations.Broken spot rule)) x y a b n m =

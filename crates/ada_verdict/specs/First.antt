@@ -9,6 +9,7 @@ use Rattle.ada_tree.specs.Statements.{UnitTree, IsTextOf}
 use Rattle.ada_parser.specs.FirstFault.{IsFirstFault as IsFirstSyntaxFault}
 use Rattle.ada_program.specs.declared.program.Program.{Program}
 use Rattle.ada_program.specs.ProgramForm.{ProgramForm, program_form}
+use Rattle.ada_circles.specs.Circles.{IsFirstCircle}
 use Rattle.ada_deeds.specs.Implicit.{implicit_of}
 use Rattle.ada_operations.specs.declared.fault.OperationFault.{OperationFault}
 use Rattle.ada_operations.specs.declared.fault.OperationFault.TheVariants as operations
@@ -51,11 +52,16 @@ NoneCallsItself program = IsFirstRound (program_form program) None
 abbrev pub OperationsObey : Program → Type 0
 OperationsObey program = IsFirstOf (program_form program) None
 
+-- No body leads back to itself by what its own declarations create (7.6, 3.3.1).
+abbrev pub NoneLeadsBack : Program → Type 0
+NoneLeadsBack program = IsFirstCircle (program_form program) None
+
 -- Each operation is in use: Initialize is plain or, where it may be, frugal, Adjust is quiet, or, of a type that declares a component of an access type, simple,
--- where it may track, and Finalize is quiet or, where it may be, frugal. And where one may touch storage, and something creates an object with controlled parts, no
--- component of a record frees an object whose end reaches an access type whose objects have such a component.
+-- where it may track, and Finalize is quiet or, where it may be, frugal. What the declarations of bodies create leads back to none of them. And where an
+-- operation may touch storage, and something creates an object with controlled parts, no component of a record frees an object whose end reaches an access type
+-- whose objects have such a component.
 abbrev pub OperationsAreInUse : Program → Type 0
-OperationsAreInUse program = IsFirstNotInUse (program_form program) None × SparesHolders program
+OperationsAreInUse program = IsFirstNotInUse (program_form program) None × NoneLeadsBack program × SparesHolders program
 
 -- Nothing is wrong with a program, by the phases behind names: no Initialize and no Adjust calls itself, its operations obey their rules, it obeys the rules of
 -- flow, where what operations may do that are called implicitly counts, and its operations are in use.
@@ -84,13 +90,23 @@ IsFreedFirst p spot =
 -- What an end does not spare, first in a program: a holder of a component.
 abbrev pub IsFirstUnspared : Program → UnusedFault → Type 0
 IsFirstUnspared program (unused.Operation spot) = ⊥
+IsFirstUnspared program (unused.Circle spot) = ⊥
 IsFirstUnspared program (unused.Holder spot) = IsFreedFirst (program_form program) spot
 IsFirstUnspared program unused.NoMemory = Unit {0}
 
--- The first operation that is not in use, where the rules of flow are obeyed; or each is in use, but an end may not spare a holder of a component that is freed.
+-- What is wrong first, where each operation is in use by its own text: a body that leads back to itself; or, where there is none, what an end does not spare.
+abbrev pub IsFirstBehindUse : Program → UnusedFault → Type 0
+IsFirstBehindUse program (unused.Operation spot) = ⊥
+IsFirstBehindUse program (unused.Circle spot) = IsFirstCircle (program_form program) (Some spot)
+IsFirstBehindUse program (unused.Holder spot) = NoneLeadsBack program × IsFirstUnspared program (unused.Holder spot)
+IsFirstBehindUse program unused.NoMemory = Unit {0}
+
+-- The first operation that is not in use, where the rules of flow are obeyed; or each is in use, but a body leads back to itself, or an end may not spare a holder
+-- of a component that is freed.
 abbrev pub IsFirstUnused : Program → UnusedFault → Type 0
 IsFirstUnused program (unused.Operation spot) = ObeysRules program × IsFirstNotInUse (program_form program) (Some spot)
-IsFirstUnused program (unused.Holder spot) = ObeysRules program × IsFirstNotInUse (program_form program) None × IsFirstUnspared program (unused.Holder spot)
+IsFirstUnused program (unused.Circle spot) = ObeysRules program × IsFirstNotInUse (program_form program) None × IsFirstBehindUse program (unused.Circle spot)
+IsFirstUnused program (unused.Holder spot) = ObeysRules program × IsFirstNotInUse (program_form program) None × IsFirstBehindUse program (unused.Holder spot)
 IsFirstUnused program unused.NoMemory = ObeysRules program
 
 -- The first fault of a program, behind names: that of the first phase that has one.

@@ -5,19 +5,21 @@ ghost use Rattle.ada_deeds.specs.Implicit.{implicit_of};
 ghost use Rattle.ada_effects.specs.Found.{implicit_in};
 ghost use Rattle.ada_flow.specs.Flow.{ObeysRules};
 ghost use Rattle.ada_flow.specs.Told.{IsFirstFault as IsFirstFlowFault};
+ghost use Rattle.ada_meaning.specs.Pace.{DeclarationsSettle};
 ghost use Rattle.ada_meaning.specs.Safe.{Safe};
 ghost use Rattle.ada_program.specs.Freed.{FreesItsOwn};
 ghost use Rattle.ada_program.specs.Nested.{CollectionsNest};
-ghost use Rattle.ada_program.specs.ProgramForm.{program_form};
+ghost use Rattle.ada_program.specs.ProgramForm.{body_forms, program_form};
 ghost use Rattle.ada_program.specs.WellFormed.{IsWellFormed};
 ghost use Rattle.ada_quiet.specs.InUse.{operations_are_in_use};
 ghost use Rattle.ada_sound.specs.Always.{IsChecked, SparesHolders};
 ghost use Rattle.ada_tree.specs.StatementView.{unit_of};
-ghost use Rattle.ada_verdict.specs.First.{HasNoFault, IsAccepted, IsFirst, IsFirstCircling, IsFirstIn, IsFirstUnspared, IsFirstUnused, IsProgramOf, IsSourceOf, NoneCallsItself, OperationsAreInUse, RefusesRightly};
+ghost use Rattle.ada_verdict.specs.First.{HasNoFault, IsAccepted, IsFirst, IsFirstBehindUse, IsFirstCircling, IsFirstIn, IsFirstUnspared, IsFirstUnused, IsProgramOf, IsSourceOf, NoneCallsItself, NoneLeadsBack, OperationsAreInUse, RefusesRightly};
 
 use crate::fault::{RoundFault, UnusedFault, Verdict};
 use crate::holders::reaching_holders;
 use crate::laws::accepted_sources_have_no_fault;
+use ada_circles::first_circle;
 use ada_effects::Implicit;
 use ada_flow::{FlowFault, flow};
 use ada_operations::laws::{ends_spare_their_own, obeying_propagates_nothing};
@@ -27,6 +29,7 @@ use ada_program::Program;
 use ada_quiet::{first_freed_inside, first_unused, makes_parts, may_be_frugal};
 use ada_resolve::resolve;
 use ada_rounds::first_round;
+use ada_settled::laws::no_circle_settles;
 use ada_sound::laws::rules_imply_safety;
 use ada_tree::unit::Unit;
 use std::alloc::Global;
@@ -48,23 +51,26 @@ impl Model for Accepted {
     ghost coded = { contract.the_row.coded };
 
     ghost use Rattle.ada_sound.specs.Always.{IsChecked};
+    ghost use Rattle.ada_verdict.specs.First.{NoneLeadsBack};
 
     ghost view = { λ a. a.program };
 
-    ghost invariant = { λ a. IsChecked a.program };
+    ghost invariant = { λ a. IsChecked a.program × NoneLeadsBack a.program };
 }
 
 impl Accepted {
     /// The program, which is safe: no run of it comes to an erroneous action, and every run keeps the laws of
-    /// finalization.
+    /// finalization. Statements keep beginning in it, or it ends.
     pub fn program(&self) -> &Program
         ensures program { result.now ≡ self.now }
         ensures formed { IsWellFormed (program_form self.now) }
         ensures in_use { operations_are_in_use (program_form self.now) ≡ true }
         ensures rules { ObeysRules self.now }
+        ensures settles { DeclarationsSettle self.now.types.items (body_forms self.now) }
         ensures safe { Safe self.now }
     {
         rules_imply_safety();
+        no_circle_settles();
         &self.program
     }
 }
@@ -112,6 +118,7 @@ fn judge(alloc: Global, program: &Program) -> Result<(), Verdict>
     requires { IsWellFormed (program_form program.now) }
     ensures fine { IfOk result (λ _. HasNoFault program.now) }
     ensures in_use { IfOk result (λ _. operations_are_in_use (program_form program.now) ≡ true) }
+    ensures back { IfOk result (λ _. NoneLeadsBack program.now) }
     ensures holders { IfOk result (λ _. SparesHolders program.now) }
     ensures refused { IfErr result (λ verdict. IsFirstIn program.now verdict) }
 {
@@ -149,12 +156,12 @@ fn obey(alloc: Global, program: &Program, implicit: &Implicit) -> Result<(), Flo
 }
 
 /// Each operation is in use: Initialize is plain or, where it may be, frugal, Adjust is quiet, or, of a type that declares a component
-/// of an access type, simple, where it may track, and Finalize is quiet or, where it may be, frugal. And where one may touch storage, and
-/// something creates an object with controlled parts, no component of a record frees an object whose end reaches an access type whose
-/// objects have such a component.
+/// of an access type, simple, where it may track, and Finalize is quiet or, where it may be, frugal. What the declarations of bodies create
+/// leads back to none of them. And where an operation may touch storage, and something creates an object with controlled parts, no component
+/// of a record frees an object whose end reaches an access type whose objects have such a component.
 ///
 /// # Errors
-/// The first one that is not, or the first such component, or want of memory.
+/// The first one that is not, or the first body that leads back to itself, or the first such component, or want of memory.
 fn use_all(alloc: Global, program: &Program, implicit: &Implicit) -> Result<(), UnusedFault>
     requires obeys { ObeysRules program.now }
     requires known { implicit_in implicit.now ≡ implicit_of (program_form program.now) }
@@ -164,6 +171,22 @@ fn use_all(alloc: Global, program: &Program, implicit: &Implicit) -> Result<(), 
 {
     match first_unused(alloc, program)? {
         Some(spot) => Err(UnusedFault::Operation(spot)),
+        None => shun_circles(alloc, program, implicit),
+    }
+}
+
+/// No body leads back to itself by what its own declarations create, and ends spare holders.
+///
+/// # Errors
+/// The first body that does, or where the first component is freed whose end does not spare one, or want of memory.
+fn shun_circles(alloc: Global, program: &Program, implicit: &Implicit) -> Result<(), UnusedFault>
+    requires { implicit_in implicit.now ≡ implicit_of (program_form program.now) }
+    ensures back { IfOk result (λ _. NoneLeadsBack program.now) }
+    ensures holders { IfOk result (λ _. SparesHolders program.now) }
+    ensures refused { IfErr result (λ fault. IsFirstBehindUse program.now fault) }
+{
+    match first_circle(alloc, program)? {
+        Some(spot) => Err(UnusedFault::Circle(spot)),
         None => spare_holders(alloc, program, implicit),
     }
 }

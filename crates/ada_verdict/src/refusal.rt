@@ -100,6 +100,7 @@ fn unused_refusal(fault: &UnusedFault) -> Option<Refusal>
 {
     match fault {
         UnusedFault::Operation(spot) => refused(*spot, rules::NOT_IN_PROFILE),
+        UnusedFault::Circle(spot) => refused(*spot, rules::NOT_IN_PROFILE),
         UnusedFault::Holder(spot) => refused(*spot, rules::NOT_IN_PROFILE),
         UnusedFault::NoMemory => None,
     }

@@ -1,35 +1,32 @@
--- The next procedure is told as its body is, by what is known of those before it.
-use Rattle.std.proofs.Common.{◌≡◌, ℕ, ◌+◌, ◌<◌, Bool, List, [], ◌∷◌, ◌++◌, length, get_or, map, drop, sym, ap, ◌∙◌, subst}
-use Rattle.std.proofs.lemmas.List.{at_drop_more}
-use Rattle.ada_program.specs.declared.program.Procedure.{Procedure}
-use Rattle.ada_program.specs.declared.program.TypeDefinition.{TypeDefinition}
-use Rattle.ada_program.specs.Kept.{types_in}
-use Rattle.ada_program.specs.ProgramForm.{body_form}
-use Rattle.ada_quiet.specs.Frugal.{is_frugal_body, frugal_from}
-use Rattle.ada_quiet.specs.Known.{thrift_in}
+use Rattle.std.proofs.Common.{◌≡◌, ◌||◌, ℕ, Bool, List, [], map, ap, ◌∙◌, subst}
+use Rattle.std.specs.Global.{Vec}
+use Rattle.std.specs.Prelude.{Result, Ok, Err, IfOk}
+use Rattle.ada_program.specs.declared.program.Declaration.{Declaration}
+use Rattle.ada_program.specs.Form.{declaration_form}
+use Rattle.ada_program.specs.Nested.{collected, is_one_of}
+use Rattle.ada_program.specs.ProgramForm.{ProgramForm, program_form}
+use Rattle.ada_quiet.specs.Frugal.{frugal_from, frugal_procedures}
+use Rattle.ada_quiet.specs.Known.{is_marked, marked_in}
+use Rattle.ada_quiet.proofs.FrugalAt.{frugal_alike}
+use Rattle.ada_quiet.proofs.MarkedNumbers.{marked_told}
 use Rattle.ada_quiet.proofs.frugal.frugal_procedures.Goals as goal
 
--- what is known of one more, and what is left behind it, tell of all
-next : (types : List TypeDefinition) (frugal more : List Bool) (here : Bool) (ps : List Procedure) (n : ℕ) (b : Procedure) (all : List Bool) → n < length ps
-    → b ≡ get_or ps n b → here ≡ is_frugal_body (thrift_in types frugal) (body_form b) → more ≡ frugal ++ here ∷ []
-    → frugal_from (types_in types) frugal (map body_form (drop n ps)) ≡ all → frugal_from (types_in types) more (map body_form (drop (n + 1) ps)) ≡ all
-next types frugal more here ps n b all inside there is grown before =
-    let rest = drop (n + 1) ps in
-    ap (λ (marks : List Bool). frugal_from (types_in types) marks (map body_form rest)) (grown ∙ ap (λ (told : Bool). frugal ++ told ∷ []) is)
-    ∙ ap (λ (q : Procedure). frugal_from (types_in types) frugal (map body_form (q ∷ rest))) there
-    ∙ sym (at_drop_more (λ qs. frugal_from (types_in types) frugal (map body_form qs)) ps n b inside)
-    ∙ before
+-- what is told by the marks is told by the collections that they are made from
+by_marks : {E : Type 0} (found : Result (Vec Bool) E) (p : ProgramForm) (marks : List Bool)
+    → ((t : ℕ) → is_marked marks t ≡ is_one_of (collected p.declarations) t)
+    → IfOk found (λ frugal. frugal.items ≡ frugal_from p.types (marked_in marks) [] p.bodies) → IfOk found (λ frugal. frugal.items ≡ frugal_procedures p)
+by_marks (Ok frugal) p marks same is =
+    is ∙ frugal_alike p.types (marked_in marks) (collected p.declarations) (λ t. marked_told marks t ∙ same t) [] p.bodies
+by_marks (Err e) p marks same is = is
 
-pub procedures-preserved : goal.procedures-preserved
-procedures-preserved c =
+pub returns : goal.returns
+returns c =
     let program = c.args.program.now in
-    let index = c.procedures.procedure-index in
-    let frugal = c.procedures.frugal.items in
-    let b = c.procedure-item.result in
-    let inside = subst (λ (ps : List Procedure). index < length ps) c.deref-procedure-items.ensures.value c.procedures-test.true in
-    let there = subst (λ (ps : List Procedure). b ≡ get_or ps index b) c.deref-procedure-items.ensures.value c.procedure-item.is in
-    let is = c.is_frugal_body-is_frugal.ensures
-    ∙ ap (λ (types : List TypeDefinition). is_frugal_body (thrift_in types c.deref-in-procedures.result.now) (body_form b)) c.deref.ensures.value
-    ∙ ap (λ (marks : List Bool). is_frugal_body (thrift_in program.types.items marks) (body_form b)) c.deref-in-procedures.ensures.value in
-    next program.types.items frugal c.push.new.self.items c.is_frugal_body-is_frugal.result program.procedures.items index b _ inside there is
-    c.in_ok-push.ensures.items c.procedures.invariant
+    let marks = c.mark_collected.new.marks.items in
+    let same = λ (t : ℕ). c.in_ok-mark_collected.ensures t
+    ∙ ap (λ (before : List Bool). is_marked before t || is_one_of (collected (map declaration_form c.deref.result.now)) t) c.new-outermost.ensures.items
+    ∙ ap (λ (ds : List Declaration). is_one_of (collected (map declaration_form ds)) t) c.deref.ensures.value in
+    by_marks c.frugal_by.result (program_form program) marks same
+    (subst (λ (ms : List Bool). IfOk c.frugal_by.result
+    (λ frugal. frugal.items ≡ frugal_from (program_form program).types (marked_in ms) [] (program_form program).bodies))
+    c.deref-2.ensures.value c.frugal_by.ensures)

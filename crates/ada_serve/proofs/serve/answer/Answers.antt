@@ -5,7 +5,6 @@ use Rattle.ada_program.specs.ProgramForm.{body_forms}
 use Rattle.ada_meaning.specs.Pace.{DeclarationsSettle}
 use Rattle.ada_serve.specs.Calls.{IsRead}
 use Rattle.ada_serve.proofs.Answering.{input_unwritten, answers_run}
-use Rattle.ada_serve.proofs.Plain.{used_settles}
 use Rattle.ada_serve.proofs.serve.answer.Goals as goal
 
 pub returns-in_err-numbers-clause-writer : goal.returns-in_err-numbers-clause-writer
@@ -20,6 +19,5 @@ returns-then-options-clause-text g c =
 pub run-requires : goal.run-requires
 run-requires g c = record {
   operations =
-      subst (λ (p : Program). DeclarationsSettle p.types.items (body_forms p)) (sym c.program-program.ensures.program)
-      (used_settles c.args.accepted.now c.program-program.ensures.formed c.program-program.ensures.in_use);
+      subst (λ (p : Program). DeclarationsSettle p.types.items (body_forms p)) (sym c.program-program.ensures.program) c.program-program.ensures.settles;
 }

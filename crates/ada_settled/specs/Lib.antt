@@ -1,0 +1,4 @@
+-- The definitions of this crate.
+
+-- where declarations settle
+pub mod Laws
