@@ -301,11 +301,6 @@ Lasts o (Treating v (begins by done) tasks) = v ≡ name o → ⊥
 Lasts o (Treating v (ends cause) tasks) = Unit {0}
 Lasts o (Ending v) = v ≡ name o → ⊥
 
-pub other_lasts : (o : ℕ) (d : Doing) → Other o d → Lasts o d
-other_lasts o (Treating v (begins by done) tasks) h = h
-other_lasts o (Treating v (ends cause) tasks) h = tt
-other_lasts o (Ending v) h = h
-
 lasts_gain : (shapes : List Shape) (o n : ℕ) (d : Doing) → Lasts o d → gain shapes o n d ≡ 0
 lasts_gain shapes o n (Treating v (begins by done) tasks) ne = on_not v o (count n (parts_left shapes tasks)) ne
 lasts_gain shapes o n (Treating v (ends cause) tasks) h = refl

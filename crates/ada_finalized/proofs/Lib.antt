@@ -45,10 +45,14 @@ pub mod Told
 pub mod Runs
 -- objects have the values of their parts
 pub mod Standing
+-- what is inside of the part for which an operation runs has its values
+pub mod Inside
+pub mod InnerParts
 -- what something is done to exists, and no treatment comes to a value that does not
 pub mod Twice
 -- programs with controlled types
 pub mod Example
 pub mod OperationExamples
+pub mod NestedExample
 -- what the laws refuse
 pub mod Refused

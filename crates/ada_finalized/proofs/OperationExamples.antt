@@ -1,9 +1,9 @@
--- Programs whose Initialize raises an exception or frees another object, or whose Finalize does nothing, assigns to its object or frees another one, and runs of
--- them.
+-- Programs whose Initialize raises an exception, frees another object or assigns to a component of its own, or whose Finalize does nothing, assigns to its
+-- object or to a component of it, or frees another one, and runs of them.
 
-use Rattle.std.proofs.Common.{◌≡◌, ◌≢◌, ◌≤◌, ℕ, true, false, List, [], ◌∷◌, ◌++◌, length, refl, arith}
+use Rattle.std.proofs.Common.{◌≡◌, ◌≢◌, ◌≤◌, ℕ, true, false, List, [], ◌∷◌, ◌++◌, length, refl, inl, inr, subst, arith}
 use Rattle.std.specs.Prelude.{None, pos}
-use Rattle.std.specs.List.{filter}
+use Rattle.std.specs.List.{filter, Contains}
 use Rattle.ada_program.specs.declared.program.ComponentKind.TheVariants as component
 use Rattle.ada_program.specs.declared.program.Declaration.{Declaration}
 use Rattle.ada_program.specs.declared.program.Declaration.TheVariants as declaration
@@ -14,6 +14,7 @@ use Rattle.ada_program.specs.declared.program.Operations.{Operations}
 use Rattle.ada_program.specs.declared.program.PartKind.TheVariants as part
 use Rattle.ada_program.specs.declared.program.Procedure.{Procedure}
 use Rattle.ada_program.specs.declared.program.Program.{Program}
+use Rattle.ada_program.specs.declared.program.RecordPath.{RecordPath}
 use Rattle.ada_program.specs.declared.program.Right.TheVariants as right
 use Rattle.ada_program.specs.declared.program.Stmt.{Stmt}
 use Rattle.ada_program.specs.declared.program.Stmt as stmt
@@ -24,14 +25,16 @@ use Rattle.ada_program.specs.declared.program.VariableKind.TheVariants as variab
 use Rattle.ada_program.specs.Controlled.{no_operations, shapes_of, operations_of}
 use Rattle.ada_program.specs.Form.{stmt_form, expression_form, stmt_forms, statement_rules}
 use Rattle.ada_program.specs.ProgramForm.{body_forms}
+use Rattle.ada_parts.specs.Part.{LiesIn}
 use Rattle.ada_meaning.specs.declared.state.Value.TheVariants.{Names}
-use Rattle.ada_meaning.specs.declared.event.Halt.TheVariants.{Unhandled}
+use Rattle.ada_meaning.specs.declared.event.Halt.TheVariants.{Finished, Unhandled}
 use Rattle.ada_meaning.specs.Named.{next}
 use Rattle.ada_meaning.specs.Run.{Choice, grants, takes, Halts}
 use Rattle.ada_order.specs.Example.{InSomeRun, is_seen}
 use Rattle.ada_order.proofs.Choices.{run_by}
 use Rattle.ada_order.proofs.Example.{steps, vec, no_name, spot, path}
-use Rattle.ada_finalized.specs.Example.{controlled_shapes, raising_initialize, object_stmts, outer_operations, undone_events, quiet_finalize, outer_finalizes, BeginsAlone, TreatsAlone, BeginsWithin, assigning_finalize, TreatsTwice, object_x, freeing_operation, created_there, StandsWithin, TreatsWithin}
+use Rattle.ada_finalized.specs.Example.{controlled_shapes, raising_initialize, object_stmts, outer_operations, undone_events, quiet_finalize, outer_finalizes, BeginsAlone, TreatsAlone, BeginsWithin, assigning_finalize, TreatsTwice, object_x, freeing_operation, created_there, StandsWithin, TreatsWithin, assigning_operation, initialize_events, finalize_events, TreatsInner}
+use Rattle.ada_finalized.proofs.Treated.{none_in, cons_cases}
 use Rattle.ada_finalized.proofs.Doings.{same_name}
 use Rattle.ada_finalized.proofs.Example.{controlled_with, whole}
 
@@ -44,6 +47,7 @@ types operations =
     ∷ definition.Object (record { 0 = 1 })
     ∷ definition.Object (record { 0 = 1 })
     ∷ definition.Access no_name (record { 0 = 0 }) None
+    ∷ definition.Object (record { 0 = 0 })
     ∷ []
 
 -- A record object that is known by the type of this number.
@@ -254,3 +258,90 @@ finalize_treats =
     run_by (freeing outer_finalizes) (freeing_operation ∷ []) object_stmts (freeing_bodies outer_finalizes) (freeing_form outer_finalizes)
     (finalize_frees ++ steps 1) (λ events last. TreatsWithin last) refl
     (_, _, _, refl, (λ still. true_never still.1.1.1.1.1.1.1.1.0), (x_is_other, tt))
+
+-- An operation assigns to the component of its formal parameter.
+abbrev inner_path : (x part : ℕ) → RecordPath
+inner_path x part = record {
+  object = record { root = record { 0 = x }; of_record = true; selectors = vec [] (omega arith); spot = spot };
+  first = record { 0 = 0 };
+  part = record { 0 = part };
+  «record» = record { 0 = 0 };
+}
+
+abbrev pub assigning_inside : Operations → Program
+assigning_inside overrides =
+    program_with overrides
+    (operation (of_outer 6 ∷ []) (omega arith) (declaration.Record (record { 0 = 1 }) (record { 0 = 6 }) None ∷ []) (omega arith)
+    (stmt.AssignRecord (inner_path 0 1) (vec (item.Record (inner_path 1 0) ∷ []) (omega arith))))
+
+pub inside_shapes : (overrides : Operations) → shapes_of (assigning_inside overrides).types.items ≡ controlled_shapes
+inside_shapes overrides = refl
+
+pub inside_operations : (overrides : Operations) → operations_of (assigning_inside overrides).types.items 1 ≡ overrides
+inside_operations overrides = refl
+
+pub inside_bodies : (overrides : Operations) → body_forms (assigning_inside overrides) ≡ assigning_operation ∷ []
+inside_bodies overrides = simp statement_rules
+
+pub inside_form : (overrides : Operations) → stmt_forms (assigning_inside overrides) ≡ object_stmts
+inside_form overrides = simp statement_rules
+
+-- One part is left, which lies in X, or is left to be finalized.
+one_part : (P : ℕ → Type 0) → P 1 → (n : ℕ) → Contains (1 ∷ []) n → P n
+one_part P p n has = elim (cons_cases 1 n [] has) [ inl same ↦ subst P same p | inr more ↦ none_in n more ]
+
+abbrev LiesInX : ℕ → Type 0
+LiesInX n = (object_x ≡ object_x → LiesIn controlled_shapes n (record { of = 1; number = 0 })) × Unit {0}
+
+abbrev IsLeftOfX : ℕ → Type 0
+IsLeftOfX n = (object_x ≡ object_x → Contains (1 ∷ []) n) × Unit {0}
+
+component_lies : LiesIn controlled_shapes 1 (record { of = 1; number = 0 })
+component_lies = record { behind = omega arith; within = omega arith }
+
+-- The operation is called, Y is initialized, and the records of the assignment are found.
+abbrev initialize_assigns : List Choice
+initialize_assigns = steps 3 ++ takes 0 ∷ steps 11
+
+pub initialize_inner : InSomeRun (assigning_inside outer_operations) (λ events last. TreatsInner (assigning_inside outer_operations) last)
+unfolding next expression_form stmt_form
+initialize_inner =
+    run_by (assigning_inside outer_operations) (assigning_operation ∷ []) object_stmts (inside_bodies outer_operations) (inside_form outer_operations)
+    initialize_assigns (λ events last. TreatsInner (assigning_inside outer_operations) last) refl
+    (_, _, _, refl, (λ none. none.0 refl), one_part LiesInX ((λ same. component_lies), tt))
+
+-- The component is finalized, copied and adjusted; Y is finalized as the body is left; and X as the block is.
+abbrev initialize_finishes : List Choice
+initialize_finishes = initialize_assigns ++ steps 7 ++ takes 0 ∷ steps 12 ++ takes 0 ∷ steps 1 ++ takes 0 ∷ steps 9
+
+pub initialize_ends :
+    InSomeRun (assigning_inside outer_operations)
+    (λ events last. Halts (assigning_inside outer_operations) last Finished × (filter is_seen events ≡ initialize_events))
+unfolding next expression_form stmt_form
+initialize_ends =
+    run_by (assigning_inside outer_operations) (assigning_operation ∷ []) object_stmts (inside_bodies outer_operations) (inside_form outer_operations)
+    initialize_finishes
+    (λ events last. Halts (assigning_inside outer_operations) last Finished × (filter is_seen events ≡ initialize_events)) refl (refl, refl)
+
+-- So it is in Finalize, which is called once the block is left and X is picked.
+abbrev finalize_assigns : List Choice
+finalize_assigns = up_to_leaving ++ steps 10
+
+pub finalize_inner : InSomeRun (assigning_inside outer_finalizes) (λ events last. TreatsInner (assigning_inside outer_finalizes) last)
+unfolding next expression_form stmt_form
+finalize_inner =
+    run_by (assigning_inside outer_finalizes) (assigning_operation ∷ []) object_stmts (inside_bodies outer_finalizes) (inside_form outer_finalizes)
+    finalize_assigns (λ events last. TreatsInner (assigning_inside outer_finalizes) last) refl
+    (_, _, _, refl, (λ none. none.0 refl), one_part IsLeftOfX ((λ same. (0, omega arith, refl)), tt))
+
+abbrev finalize_finishes : List Choice
+finalize_finishes = finalize_assigns ++ steps 7 ++ takes 0 ∷ steps 7 ++ takes 0 ∷ steps 9
+
+pub finalize_ends :
+    InSomeRun (assigning_inside outer_finalizes)
+    (λ events last. Halts (assigning_inside outer_finalizes) last Finished × (filter is_seen events ≡ finalize_events))
+unfolding next expression_form stmt_form
+finalize_ends =
+    run_by (assigning_inside outer_finalizes) (assigning_operation ∷ []) object_stmts (inside_bodies outer_finalizes) (inside_form outer_finalizes)
+    finalize_finishes
+    (λ events last. Halts (assigning_inside outer_finalizes) last Finished × (filter is_seen events ≡ finalize_events)) refl (refl, refl)

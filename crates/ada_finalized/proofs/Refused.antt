@@ -13,8 +13,9 @@ use Rattle.ada_meaning.specs.Event.{Born, Finalized, Back, Quiet}
 use Rattle.ada_meaning.specs.Run.{Event}
 use Rattle.ada_meaning.specs.Law.{ControlledValue, FinalizedTwoValues, Happened}
 use Rattle.ada_meaning.specs.Finalization.{Bears, Finalizes, BegunPart, begun_of, FinalizationLaw}
-use Rattle.ada_finalized.specs.Law.{NoOperationRunsOn, NothingBegins}
+use Rattle.ada_finalized.specs.Law.{NoOperationRunsOn, NothingBegins, IsInside}
 use Rattle.ada_finalized.specs.Example.{controlled_shapes}
+use Rattle.ada_finalized.proofs.Treated.{none_in, cons_cases}
 
 -- The object, its whole and its component: they come to exist, and are finalized, with these turns; and its words go back.
 abbrev it : Value
@@ -200,3 +201,13 @@ awaited_begins none = none.0 refl
 -- While it is assigned to, it is still to be adjusted.
 adjusted_begins : NothingBegins it (frame.Copies 0 1 ∷ frame.StoresRecord it 0 1 ∷ frame.Treats it (frame.begins (Adjustment 3) []) (performs 0 1 ∷ []) ∷ []) → ⊥
 adjusted_begins none = none.0 refl
+
+-- The part for which an operation runs is not inside of that, nor is any part once the last one is finalized.
+own_is_not_inside : IsInside controlled_shapes it 0 (frame.Awaits it Creation [] 1 0 [] ∷ []) → ⊥
+own_is_not_inside inside = let lt = (inside.0 refl).behind in omega (arith, lt)
+
+ended_is_not_inside : IsInside controlled_shapes it 0 (frame.Confines ∷ frame.Treats it (frame.ends (Freeing 2)) (performs 0 1 ∷ []) ∷ frame.Ends it ∷ []) → ⊥
+ended_is_not_inside inside = elim (cons_cases 1 0 [] (inside.0 refl)) [ inl e ↦ absurd (omega (arith, e)) | inr more ↦ none_in 0 more ]
+
+none_is_inside : IsInside controlled_shapes it 1 (frame.Confines ∷ frame.Ends it ∷ []) → ⊥
+none_is_inside inside = none_in 1 (inside.0 refl)

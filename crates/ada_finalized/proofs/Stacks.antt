@@ -207,11 +207,11 @@ module _ (types : List TypeDefinition) (xs : Heap) where
   one_more : (of n : ℕ) (tasks : List Task) → 1 ≤ count n (parts_left (shapes_of types) (performs of n ∷ tasks))
   one_more of n tasks = let one = ap one_if (eq_self n) in omega (arith, one)
 
-  before_ending : (o : ℕ) (cause : Cause) (pool : Option ℕ) (tasks : List Task) (k : Control) → finalized_before (treating (name o) (ends cause) tasks (ending_then o cause pool k)) ≡ name o
+  pub before_ending : (o : ℕ) (cause : Cause) (pool : Option ℕ) (tasks : List Task) (k : Control) → finalized_before (treating (name o) (ends cause) tasks (ending_then o cause pool k)) ≡ name o
   before_ending o cause pool [] k = refl
   before_ending o cause pool (task ∷ tasks) k = refl
 
-  before_copying :
+  pub before_copying :
       (o n first t to width : ℕ) (cause : Cause) (tasks left : List Task) (k : Control)
       → finalized_before (treating (name o) (ends cause) tasks (frame.Copies first t ∷ storing_then o n to width left k)) ≡ name o
   before_copying o n first t to width cause [] left k = refl
@@ -280,46 +280,7 @@ module _ (types : List TypeDefinition) (xs : Heap) where
         ),
       )
 
-  -- Where no operation of an object runs, nothing is done to the object behind code.
-  calm_on : (v : Value) (f : Frame Value) (k : Control) → Calm f → NoOperationRunsOn v (f ∷ k) → NoOperationRunsOn v k
-  calm_on v (frame.Awaits w by done of part tasks) k c on_v = absurd c
-  calm_on v frame.Confines k c on_v = absurd c
-  calm_on v f k c on_v = on_v
-
-  pub treating_on : (v w : Value) (treatment : Treatment) (tasks : List Task) (k : Control) → NoOperationRunsOn v (treating w treatment tasks k) → NoOperationRunsOn v k
-  treating_on v w treatment [] k on_v = on_v
-  treating_on v w treatment (task ∷ tasks) k on_v = on_v
-
-  pub others_on : (kind : Kind) (acts : Acts) (k : Control) → Stack types xs kind acts k → (o : ℕ) → (kind ≡ finalization → finalized_before k ≢ name o) → NoOperationRunsOn (name o) k → Of (Other o) (doings k)
-  others_on code acts _ nothing o apart none = tt
-  others_on code acts _ (calm f k c h) o apart none =
-      subst (Of (Other o)) (sym (calm_doings f k c)) (others_on code acts k h o (λ is. absurd (cc is)) (calm_on (name o) f k c none))
-  others_on code acts _ (comes_back actuals references k h) o apart none = others_on code (older acts) k h o (λ is. absurd (cc is)) none
-  others_on code acts _ (operates k h) o apart none = others_on guard (older acts) k h o (λ is. absurd (cc is)) none
-  others_on guard acts _ (awaits v by done of part tasks k some p h) o apart none = (none.0, others_on code acts k h o (λ is. absurd (cc is)) none.1)
-  others_on guard acts _ (confines k some p h) o apart none = others_on finalization acts k h o (λ is. none.0) none.1
-  others_on finalization acts control (to_end i cause pool tasks k is own once h) o apart none =
-      let ds = Treating (name i) (ends cause) tasks ∷ Ending (name i) ∷ doings k in
-      let ne : name i ≢ name o = λ same. apart refl (ap finalized_before is ∙ before_ending i cause pool tasks k ∙ same) in
-      let none_left : NoOperationRunsOn (name o) k = treating_on (name o) (name i) (ends cause) tasks (ending_then i cause pool k) (subst (NoOperationRunsOn (name o)) is none) in
-      let few : Fewer ds (doings control) =
-      subst (λ (c : Control). Fewer ds (doings c)) (sym is)
-      (fewer_treating (name i) (ends cause) tasks (Ending (name i) ∷ doings k) (ending_then i cause pool k) alike) in
-      fewer_of (Other o) ds (doings control) few (ne, (ne, others_on code acts k h o (λ never. absurd (cc never)) none_left))
-  others_on finalization acts control (to_copy i m from t to width source tasks left k is less once operand h) o apart none =
-      let ds = Treating (name i) (ends (Assigning m)) tasks ∷ Treating (name i) (begins (Adjustment m) []) left ∷ doings k in
-      let behind = frame.Copies from t ∷ storing_then i m to width left k in
-      let ne : name i ≢ name o = λ same. apart refl (ap finalized_before is ∙ before_copying i m from t to width (Assigning m) tasks left k ∙ same) in
-      let none_left : NoOperationRunsOn (name o) k =
-      treating_on (name o) (name i) (begins (Adjustment m) []) left k
-      (treating_on (name o) (name i) (ends (Assigning m)) tasks behind (subst (NoOperationRunsOn (name o)) is none)) in
-      let few : Fewer ds (doings control) =
-      subst (λ (c : Control). Fewer ds (doings c)) (sym is)
-      (fewer_treating (name i) (ends (Assigning m)) tasks (Treating (name i) (begins (Adjustment m) []) left ∷ doings k) behind
-      (fewer_treating (name i) (begins (Adjustment m) []) left (doings k) k alike)) in
-      fewer_of (Other o) ds (doings control) few (ne, (ne, others_on code acts k h o (λ never. absurd (cc never)) none_left))
-
-  -- And none of an object runs for whose parts nothing waits.
+  -- No operation of an object runs for whose parts nothing waits.
   on_calm : (v : Value) (f : Frame Value) (k : Control) → Calm f → NoOperationRunsOn v k → NoOperationRunsOn v (f ∷ k)
   on_calm v (frame.Awaits w by done of part tasks) k c on_v = absurd c
   on_calm v frame.Confines k c on_v = absurd c

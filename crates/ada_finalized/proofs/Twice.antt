@@ -1,4 +1,4 @@
--- What is treated exists; and while no operation of its object runs, no treatment comes to a value that does not exist.
+-- What is treated exists; and no treatment that is inside of all operations of its object that run comes to a value that does not exist.
 
 use Rattle.std.proofs.Common.{◌≡◌, ℕ, ℤ, ◌+◌, ◌≤◌, ◌==◌, Bool, true, false, if◌then◌else◌, List, [], ◌∷◌, length, Option, Some, None, refl, sym, ap, ◌∙◌, subst, arith}
 use Rattle.std.specs.List.{slice_get}
@@ -7,6 +7,7 @@ use Rattle.ada_program.specs.declared.program.Program.{Program}
 use Rattle.ada_program.specs.declared.program.TypeDefinition.{TypeDefinition}
 use Rattle.ada_program.specs.Controlled.{operations_of, procedure_number, shapes_of}
 use Rattle.ada_program.specs.ProgramForm.{BodyForm, body_forms}
+use Rattle.ada_parts.specs.Shape.{Shape}
 use Rattle.ada_parts.specs.Part.{Part}
 use Rattle.ada_parts.specs.Task.{Task, performs, treats, next as task_next}
 use Rattle.ada_parts.specs.Law.{parts_left}
@@ -26,16 +27,17 @@ use Rattle.ada_meaning.specs.Heap.{PartState, Cell, Found, on_null, on_gone, on_
 use Rattle.ada_meaning.specs.Step.{halts, picks, at, direction_of, picked_task, treating, treated_on, beginning as operation_of, operation_next, part_reference, begun_next, ended_next, finalized_next, performed_next, treats_next, born_next, awaited_next, undo_next, broken_next, mode_next}
 use Rattle.ada_meaning.specs.Named.{Object, State, Next, named, next, look, existing, seen, finalize}
 use Rattle.ada_meaning.specs.Run.{Event, Run, first_state}
-use Rattle.ada_finalized.specs.Law.{waits_for_operation, NoOperationRuns, NeverFinalizesTwice, NoOperationRunsOn, TreatedValuesExist, OperationsEndWell, NamesExisting, TreatedExist, TreatedObjectsExist, OperatedObjectsExist}
+use Rattle.ada_finalized.specs.Law.{waits_for_operation, NoOperationRuns, NeverFinalizesTwice, NoOperationRunsOn, TreatedValuesExist, TreatsInside, InnerValuesExist, OperationsEndWell, NamesExisting, TreatedExist, TreatedObjectsExist, OperatedObjectsExist}
 use Rattle.ada_finalized.proofs.Counts.{one_if, count}
 use Rattle.ada_finalized.proofs.Ranks.{Heap}
-use Rattle.ada_finalized.proofs.Doings.{name, same_name, Doing, Treating, Ending, doings, Calm, rest, Of, Fewer, fewer_treating, alike, fewer_gains, fewer_losses, on_same, gains, losses, of_map, Other, Lasts, other_lasts, lasting_gain}
-use Rattle.ada_finalized.proofs.Stacks.{Acts, Control, code, guard, finalization, Stack, nothing, calm, comes_back, operates, awaits, confines, to_end, to_copy, storing_then, ending_then, treating_on, others_on}
+use Rattle.ada_finalized.proofs.Doings.{name, same_name, Doing, Treating, Ending, doings, Calm, rest, Of, Fewer, fewer_treating, alike, fewer_gains, fewer_losses, on_same, gains, losses, Lasts}
+use Rattle.ada_finalized.proofs.Stacks.{Acts, Control, code, guard, finalization, Stack, nothing, calm, comes_back, operates, awaits, confines, to_end, to_copy, storing_then, ending_then, of_treating}
 use Rattle.ada_finalized.proofs.Claims.{Claimed}
-use Rattle.ada_finalized.proofs.Invariant.{Exists, IsThere, Inv, AssignsThen, Stands, runs, finding, passing, ends_operation, beginning, ending, leaving, storing}
+use Rattle.ada_finalized.proofs.Invariant.{Exists, IsThere, Fine, Inv, AssignsThen, Stands, runs, finding, passing, ends_operation, beginning, ending, leaving, storing}
 use Rattle.ada_finalized.proofs.Going.{next_is, alive_of, one_here}
 use Rattle.ada_finalized.proofs.Runs.{past_then, last_holds}
 use Rattle.ada_finalized.proofs.Standing.{none_runs_on}
+use Rattle.ada_finalized.proofs.Inside.{counted, none_inside, treating_inside, keeps}
 
 -- What comes next does not halt so.
 abbrev NotTwice : Next → Type 0
@@ -123,29 +125,30 @@ module _ (types : List TypeDefinition) (bodies : List BodyForm) (past : List Eve
           let at_o : slice_get s.heap o ≡ Some x = ap (slice_get s.heap) (same_name o i same) ∙ at_i in
           subst (λ (found : Option Object). Claimed found n (gains (shapes_of types) o n (doings s.control)) (losses (shapes_of types) o n (doings s.control))) at_o (inv.claims o n) stage p at_n
 
-  -- What is left of a finalization, of whose object no operation runs.
+  -- What is left of a finalization, inside of all operations of its object that run.
   ending_not_twice :
       (o : ℕ) (cause : Cause) (pool : Option ℕ) (task : Task) (tasks : List Task) (k : Control)
-      → s.control ≡ frame.Treats (name o) (ends cause) (task ∷ tasks) ∷ ending_then o cause pool k → NoOperationRunsOn (name o) k
-      → Stack types s.heap code s.activations k
+      → s.control ≡ frame.Treats (name o) (ends cause) (task ∷ tasks) ∷ ending_then o cause pool k
+      → TreatsInside (shapes_of types) (name o) (task ∷ tasks) k → Stack types s.heap code s.activations k
       → NotTwice (treats_next named types bodies (name o) (ends cause) (task ∷ tasks) (task_next (task ∷ tasks)) (at (ending_then o cause pool k) s))
-  ending_not_twice o cause pool task tasks k is none h =
+  ending_not_twice o cause pool task tasks k is inside h =
       let shapes = shapes_of types in
       let ds = Treating (name o) (ends cause) (task ∷ tasks) ∷ Ending (name o) ∷ doings k in
-      let lasts = of_map (Other o) (Lasts o) (doings k) (other_lasts o) (others_on types s.heap code s.activations k h o (λ never. absurd (cc never)) none) in
+      let fine = subst (Of (Fine types past s.heap s.next)) (ap doings is) inv.fine in
       ends_not_twice o cause task tasks (ending_then o cause pool k) is
       (λ n some.
       let a = on_same o 1 in
       let b = on_same o (count n (parts_left shapes (task ∷ tasks))) in
-      let c = lasting_gain shapes o n (doings k) lasts in
+      let c = keeps types past s.heap s.next code s.activations k h o n fine.1.1 (λ never. absurd (cc never)) (inside n (counted n (parts_left shapes (task ∷ tasks)) some)) in
       subst (λ (es : List Doing). gains shapes o n es ≤ losses shapes o n es) (sym (ap doings is)) (omega (arith, a, b, c, some)))
 
   copying_not_twice :
       (o m from t to width : ℕ) (task : Task) (tasks later : List Task) (k : Control)
       → s.control ≡ frame.Treats (name o) (ends (Assigning m)) (task ∷ tasks) ∷ frame.Copies from t ∷ storing_then o m to width later k
-      → ((n : ℕ) → count n (parts_left (shapes_of types) later) ≤ 1) → NoOperationRunsOn (name o) k → Stack types s.heap code s.activations k
+      → ((n : ℕ) → count n (parts_left (shapes_of types) later) ≤ 1)
+      → TreatsInside (shapes_of types) (name o) (task ∷ tasks) k → Stack types s.heap code s.activations k
       → NotTwice (treats_next named types bodies (name o) (ends (Assigning m)) (task ∷ tasks) (task_next (task ∷ tasks)) (at (frame.Copies from t ∷ storing_then o m to width later k) s))
-  copying_not_twice o m from t to width task tasks later k is once none h =
+  copying_not_twice o m from t to width task tasks later k is once inside h =
       let shapes = shapes_of types in
       let b = frame.Copies from t ∷ storing_then o m to width later k in
       let ds = Treating (name o) (ends (Assigning m)) (task ∷ tasks) ∷ Treating (name o) (begins (Adjustment m) []) later ∷ doings k in
@@ -153,7 +156,8 @@ module _ (types : List TypeDefinition) (bodies : List BodyForm) (past : List Eve
       subst (Fewer ds) (sym (ap doings is))
       (fewer_treating (name o) (ends (Assigning m)) (task ∷ tasks) (Treating (name o) (begins (Adjustment m) []) later ∷ doings k) b
       (fewer_treating (name o) (begins (Adjustment m) []) later (doings k) k alike)) in
-      let lasts = of_map (Other o) (Lasts o) (doings k) (other_lasts o) (others_on types s.heap code s.activations k h o (λ never. absurd (cc never)) none) in
+      let all_fine = subst (Of (Fine types past s.heap s.next)) (ap doings is) inv.fine in
+      let fine = of_treating types s.heap (Fine types past s.heap s.next) (name o) (begins (Adjustment m) []) later k all_fine.1 in
       ends_not_twice o (Assigning m) task tasks b is
       (λ n some.
       let g = fewer_gains shapes o n ds (doings s.control) few in
@@ -161,8 +165,8 @@ module _ (types : List TypeDefinition) (bodies : List BodyForm) (past : List Eve
       let x = on_same o (count n (parts_left shapes later)) in
       let y = on_same o (count n (parts_left shapes (task ∷ tasks))) in
       let c = once n in
-      let nothing_gained = lasting_gain shapes o n (doings k) lasts in
-      omega (arith, g, l, x, y, c, some, nothing_gained))
+      let le = keeps types past s.heap s.next code s.activations k h o n fine (λ never. absurd (cc never)) (inside n (counted n (parts_left shapes (task ∷ tasks)) some)) in
+      omega (arith, g, l, x, y, c, some, le))
 
   -- So it is with each treatment.
   by_next : (v : Value) (treatment : Treatment) (tasks : List Task) (k : Control) → s.mode ≡ Running → s.control ≡ frame.Treats v treatment tasks ∷ k → NotTwice (treats_next named types bodies v treatment tasks (task_next tasks) (at k s)) → NotTwice (next types bodies s)
@@ -185,45 +189,41 @@ module _ (types : List TypeDefinition) (bodies : List BodyForm) (past : List Eve
   guard_first acts v treatment tasks k _ is (awaits w by done of part left j some p h) = absurd (cc is)
   guard_first acts v treatment tasks k _ is (confines j some p h) = absurd (cc is)
 
-  -- The object of what is first.
-  object_of : Value → Control → Value
-  object_of d (frame.Treats v treatment tasks ∷ k) = v
-  object_of d k = d
-
-  behind_of : Control → Control
-  behind_of [] = []
-  behind_of (f ∷ k) = k
+  -- What is first is a treatment that is inside of all operations of its object.
+  abbrev InsideOf : List Shape → Control → Type 0
+  InsideOf shapes (frame.Treats v treatment tasks ∷ k) = TreatsInside shapes v tasks k
+  InsideOf shapes k = ⊥
 
   finalization_not_twice :
-      (v : Value) (treatment : Treatment) (tasks : List Task) (k : Control) → s.mode ≡ Running → s.control ≡ frame.Treats v treatment tasks ∷ k → NoOperationRunsOn v k → (c : Control)
-      → s.control ≡ c → Stack types s.heap finalization s.activations c → NotTwice (next types bodies s)
-  unfolding object_of behind_of
-  finalization_not_twice v treatment tasks k running first none c is (to_end o cause pool [] j e own once h) =
+      (v : Value) (treatment : Treatment) (tasks : List Task) (k : Control) → s.mode ≡ Running → s.control ≡ frame.Treats v treatment tasks ∷ k
+      → TreatsInside (shapes_of types) v tasks k → (c : Control) → s.control ≡ c → Stack types s.heap finalization s.activations c → NotTwice (next types bodies s)
+  finalization_not_twice v treatment tasks k running first inside c is (to_end o cause pool [] j e own once h) =
       let never : frame.Treats v treatment tasks ∷ k ≡ ending_then o cause pool j = sym first ∙ is ∙ e in absurd (cc never)
-  finalization_not_twice v treatment tasks k running first none c is (to_end o cause pool (task ∷ left) j e own once h) =
+  finalization_not_twice v treatment tasks k running first inside c is (to_end o cause pool (task ∷ left) j e own once h) =
       let same : frame.Treats v treatment tasks ∷ k ≡ frame.Treats (name o) (ends cause) (task ∷ left) ∷ ending_then o cause pool j = sym first ∙ is ∙ e in
-      let none_of = subst (λ (u : Value). NoOperationRunsOn u (ending_then o cause pool j)) (ap (object_of v) same) (subst (NoOperationRunsOn v) (ap behind_of same) none) in
-      by_next (name o) (ends cause) (task ∷ left) (ending_then o cause pool j) running (is ∙ e) (ending_not_twice o cause pool task left j (is ∙ e) none_of h)
-  finalization_not_twice v treatment tasks k running first none c is (to_copy o n from t to width source [] later j e less once operand h) =
+      let inside_of = subst (InsideOf (shapes_of types)) same inside in
+      by_next (name o) (ends cause) (task ∷ left) (ending_then o cause pool j) running (is ∙ e) (ending_not_twice o cause pool task left j (is ∙ e) inside_of h)
+  finalization_not_twice v treatment tasks k running first inside c is (to_copy o n from t to width source [] later j e less once operand h) =
       let never : frame.Treats v treatment tasks ∷ k ≡ frame.Copies from t ∷ storing_then o n to width later j = sym first ∙ is ∙ e in absurd (cc never)
-  finalization_not_twice v treatment tasks k running first none c is (to_copy o n from t to width source (task ∷ left) later j e less once operand h) =
+  finalization_not_twice v treatment tasks k running first inside c is (to_copy o n from t to width source (task ∷ left) later j e less once operand h) =
       let b = frame.Copies from t ∷ storing_then o n to width later j in
       let same : frame.Treats v treatment tasks ∷ k ≡ frame.Treats (name o) (ends (Assigning n)) (task ∷ left) ∷ b = sym first ∙ is ∙ e in
-      let none_of = subst (λ (u : Value). NoOperationRunsOn u b) (ap (object_of v) same) (subst (NoOperationRunsOn v) (ap behind_of same) none) in
+      let inside_of = subst (InsideOf (shapes_of types)) same inside in
       by_next (name o) (ends (Assigning n)) (task ∷ left) b running (is ∙ e)
-      (copying_not_twice o n from t to width task left later j (is ∙ e) once (treating_on types s.heap (name o) (name o) (begins (Adjustment n) []) later j none_of) h)
+      (copying_not_twice o n from t to width task left later j (is ∙ e) once
+      (λ m has. treating_inside (shapes_of types) (name o) m (name o) (begins (Adjustment n) []) later j (inside_of m has)) h)
 
-  pub treats_not_twice : (v : Value) (treatment : Treatment) (tasks : List Task) (k : Control) → s.control ≡ frame.Treats v treatment tasks ∷ k → NoOperationRunsOn v k → Stands types s.heap s → NotTwice (next types bodies s)
-  treats_not_twice v treatment tasks k is none (runs h) = absurd (code_never s.activations v treatment tasks k s.control is h)
-  treats_not_twice v treatment tasks k is none (finding running f after) = absurd (subst (λ (c : Control). AssignsThen types s.heap s.activations (rest c)) is after)
-  treats_not_twice v treatment tasks k is none (passing e raises p after) = absurd (subst (λ (c : Control). AssignsThen types s.heap s.activations (rest c)) is after)
-  treats_not_twice v treatment tasks k is none (ends_operation h) = absurd (guard_first s.activations v treatment tasks k s.control is h)
-  treats_not_twice v treatment tasks k is none (beginning o by done task left j running c h) =
+  pub treats_not_twice : (v : Value) (treatment : Treatment) (tasks : List Task) (k : Control) → s.control ≡ frame.Treats v treatment tasks ∷ k → TreatsInside (shapes_of types) v tasks k → Stands types s.heap s → NotTwice (next types bodies s)
+  treats_not_twice v treatment tasks k is inside (runs h) = absurd (code_never s.activations v treatment tasks k s.control is h)
+  treats_not_twice v treatment tasks k is inside (finding running f after) = absurd (subst (λ (c : Control). AssignsThen types s.heap s.activations (rest c)) is after)
+  treats_not_twice v treatment tasks k is inside (passing e raises p after) = absurd (subst (λ (c : Control). AssignsThen types s.heap s.activations (rest c)) is after)
+  treats_not_twice v treatment tasks k is inside (ends_operation h) = absurd (guard_first s.activations v treatment tasks k s.control is h)
+  treats_not_twice v treatment tasks k is inside (beginning o by done task left j running c h) =
       by_next (name o) (begins by done) (task ∷ left) j running c (begins_not_twice (name o) by done task left j c)
-  treats_not_twice v treatment tasks k is none (ending running h) = finalization_not_twice v treatment tasks k running is none s.control refl h
-  treats_not_twice v treatment tasks k is none (leaving o x cause pool j running c own h at_o gone) =
+  treats_not_twice v treatment tasks k is inside (ending running h) = finalization_not_twice v treatment tasks k running is inside s.control refl h
+  treats_not_twice v treatment tasks k is inside (leaving o x cause pool j running c own h at_o gone) =
       let never : frame.Treats v treatment tasks ∷ k ≡ frame.GivesBack (name o) cause pool ∷ j = sym is ∙ c in absurd (cc never)
-  treats_not_twice v treatment tasks k is none (storing o n to width left j running c h) =
+  treats_not_twice v treatment tasks k is inside (storing o n to width left j running c h) =
       let never : frame.Treats v treatment tasks ∷ k ≡ storing_then o n to width left j = sym is ∙ c in absurd (cc never)
 
 -- In every run, that to which something is done is there, whatever operations do.
@@ -306,10 +306,15 @@ operations_end_well program input events last run f k is waits halted =
     let same : last ≡ record last { control = f ∷ k } = ap (λ (c : Control). record last { control = c }) is in
     guard_not_twice types bodies last last.mode f k waits exist (ap (λ (u : State). mode_next named types bodies last.mode u) (sym same) ∙ halted)
 
-pub values_exist : TreatedValuesExist
-values_exist program input events last run v treatment tasks k is none halted =
+pub inner_values_exist : InnerValuesExist
+inner_values_exist program input events last run v treatment tasks k is inside halted =
     let fits = (last_holds program input events last run).fits in
-    treats_not_twice program.types.items (body_forms program) (past_then events []) last fits.inv v treatment tasks k is none fits.stands halted
+    treats_not_twice program.types.items (body_forms program) (past_then events []) last fits.inv v treatment tasks k is inside fits.stands halted
+
+-- Where no operation of the object runs, all of it is inside.
+pub values_exist : TreatedValuesExist
+values_exist program input events last run v treatment tasks k is none =
+    inner_values_exist program input events last run v treatment tasks k is (λ n has. none_inside (shapes_of program.types.items) v n k none)
 
 -- Where no operation runs, none of any object does.
 none_on : (v : Value) (k : Control) → NoOperationRuns k → NoOperationRunsOn v k

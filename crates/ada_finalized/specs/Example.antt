@@ -27,7 +27,7 @@ use Rattle.ada_meaning.specs.Named.{Object, State, object_at}
 use Rattle.ada_meaning.specs.Finalization.{NothingTreated}
 use Rattle.ada_meaning.specs.Run.{Event, Halts}
 use Rattle.ada_order.specs.Example.{InSomeRun, is_seen, variable_at}
-use Rattle.ada_finalized.specs.Law.{NoOperationRuns, NoOperationRunsOn, NothingBegins}
+use Rattle.ada_finalized.specs.Law.{NoOperationRuns, NoOperationRunsOn, TreatsInside, NothingBegins}
 
 -- type Inner is new Controlled with record V : Integer; end record; type Outer is new Controlled with record C : Inner; end record; type Outer_Access is
 -- access Outer; and what X and Y are known by. Of these, the newest first, Outer is controlled and has a controlled component.
@@ -226,3 +226,73 @@ OperationFrees operations =
     (program : Program) × (shapes_of program.types.items ≡ controlled_shapes) × (operations_of program.types.items 1 ≡ operations)
     × (body_forms program ≡ freeing_operation ∷ []) × (stmt_forms program ≡ object_stmts) × InSomeRun program (λ events last. StandsWithin program last)
     × InSomeRun program (λ events last. TreatsWithin last)
+
+-- A record of the type Inner, by its variable and its part there: the component of the formal parameter X, or the object Y.
+abbrev pub inner_record : (x part : ℕ) → RecordPathForm
+inner_record x part =
+    record { object = record { root = x; of_record = true; selectors = []; spot = record { line = 1; column = 1 } }; first = 0; part = part; record_type = 0 }
+
+-- An operation of Outer: (X : in out Outer) is Y : Inner; begin X.C := Y; end;
+abbrev pub assigning_operation : BodyForm
+assigning_operation =
+    body_of_outer (known_by 6 ∷ []) (declares_record 1 6 None ∷ [])
+    (a_stmt (assigns_record (inner_record 0 1) (item_of_record (inner_record 1 0) ∷ [])) no_stmts)
+
+-- Initialize is called for X once its component is initialized. It creates Y, and assigns it to that component: the value of the component is finalized, that
+-- of Y is copied to it, and it is adjusted. Then X has its own value, and all is finalized at the leaving of the block.
+abbrev pub initialize_events : List Event
+initialize_events =
+    Born object_x 1 0 0 1 Creation
+    ∷ Born object_y 0 0 0 2 Creation
+    ∷ Followed object_x
+    ∷ Followed object_y
+    ∷ Finalized object_x 1 0 0 1 (Assigning 3)
+    ∷ Followed object_y
+    ∷ Followed object_x
+    ∷ Born object_x 1 1 0 3 (Adjustment 3)
+    ∷ Finalized object_y 0 0 0 2 (Leaving 2 1)
+    ∷ Back object_y 6 0 None None (Leaving 2 1)
+    ∷ Left 2
+    ∷ Born object_x 0 0 1 4 Creation
+    ∷ Finalized object_x 0 0 1 4 (Leaving 1 0)
+    ∷ Finalized object_x 1 1 0 3 (Leaving 1 0)
+    ∷ Back object_x 2 0 None None (Leaving 1 0)
+    ∷ Left 1
+    ∷ Left 0
+    ∷ []
+
+-- Finalize is called for X once its own value is finalized, and does the same: the component is finalized behind that, with the value that it got.
+abbrev pub finalize_events : List Event
+finalize_events =
+    Born object_x 1 0 0 1 Creation
+    ∷ Born object_x 0 0 1 2 Creation
+    ∷ Finalized object_x 0 0 1 2 (Leaving 1 0)
+    ∷ Born object_y 0 0 0 3 Creation
+    ∷ Followed object_x
+    ∷ Followed object_y
+    ∷ Finalized object_x 1 0 0 1 (Assigning 3)
+    ∷ Followed object_y
+    ∷ Followed object_x
+    ∷ Born object_x 1 1 0 4 (Adjustment 3)
+    ∷ Finalized object_y 0 0 0 3 (Leaving 2 1)
+    ∷ Back object_y 6 0 None None (Leaving 2 1)
+    ∷ Left 2
+    ∷ Finalized object_x 1 1 0 4 (Leaving 1 0)
+    ∷ Back object_x 2 0 None None (Leaving 1 0)
+    ∷ Left 1
+    ∷ Left 0
+    ∷ []
+
+-- A part of X is finalized next, by an assignment, while an operation of X runs, and inside of that.
+abbrev pub TreatsInner : Program → State → Type 0
+TreatsInner program s =
+    (number : ℕ) × (tasks : List Task) × (behind : List (Frame Value)) × (s.control ≡ Treats object_x (ends (Assigning number)) tasks ∷ behind)
+    × (NoOperationRunsOn object_x behind → ⊥) × TreatsInside (shapes_of program.types.items) object_x tasks behind
+
+-- In a run of a program with these types, in which Outer overrides an operation so, by this procedure, and with these statements, the operation assigns to the
+-- component of X; and one finishes after these events.
+abbrev pub OperationAssigns : Operations → List Event → Type 0
+OperationAssigns operations expected =
+    (program : Program) × (shapes_of program.types.items ≡ controlled_shapes) × (operations_of program.types.items 1 ≡ operations)
+    × (body_forms program ≡ assigning_operation ∷ []) × (stmt_forms program ≡ object_stmts) × InSomeRun program (λ events last. TreatsInner program last)
+    × InSomeRun program (λ events last. Halts program last Finished × (filter is_seen events ≡ expected))

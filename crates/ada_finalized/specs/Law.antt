@@ -1,18 +1,25 @@
 -- What is said of every run of every program, from its first state.
 
-use Rattle.std.specs.Prelude.{◌≡◌, ◌≢◌, ℤ, Bool, true, false, List, [], ◌∷◌, Some}
+use Rattle.std.specs.Prelude.{◌≡◌, ◌≢◌, ℕ, ℤ, Bool, true, false, List, [], ◌∷◌, Some}
+use Rattle.std.specs.List.{slice_get, Contains}
 use Rattle.ada_program.specs.declared.program.Program.{Program}
 use Rattle.ada_program.specs.Controlled.{shapes_of}
+use Rattle.ada_program.specs.Form.{StmtsForm, HandlersForm, DeclarationForm}
 use Rattle.ada_parts.specs.Shape.{Shape}
+use Rattle.ada_parts.specs.Part.{Part, numbers, LiesIn}
 use Rattle.ada_parts.specs.Task.{Task}
+use Rattle.ada_parts.specs.Law.{parts_left}
 use Rattle.ada_meaning.specs.declared.state.Id.{Id}
 use Rattle.ada_meaning.specs.declared.state.Stage.TheVariants.{Existing}
 use Rattle.ada_meaning.specs.declared.state.Value.{Value}
 use Rattle.ada_meaning.specs.declared.state.Value.TheVariants.{Null, Names}
+use Rattle.ada_meaning.specs.declared.event.Birth.{Birth}
+use Rattle.ada_meaning.specs.declared.event.Cause.{Cause}
 use Rattle.ada_meaning.specs.declared.event.Halt.TheVariants.{Erroneous}
 use Rattle.ada_meaning.specs.declared.event.Why.TheVariants.{FinalizesTwice}
-use Rattle.ada_meaning.specs.Frame.{Frame, Treatment, Copies, StoresRecord, Treats, Awaits, Confines, Ends}
+use Rattle.ada_meaning.specs.Frame.{Frame, Treatment, Elaborates, Returns, Copies, StoresRecord, Treats, Awaits, Confines, Ends}
 use Rattle.ada_meaning.specs.Frame as frame
+use Rattle.ada_meaning.specs.Heap.{PartState}
 use Rattle.ada_meaning.specs.State.{begins}
 use Rattle.ada_meaning.specs.Named.{Object, State, object_at}
 use Rattle.ada_meaning.specs.Finalization.{NothingTreated, HasParts, PartsStand}
@@ -64,6 +71,72 @@ TreatedValuesExist =
     (program : Program) (input : List ℤ) (events : List Event) (last : State) → Run program (first_state program input) events last
     → (object : Value) (treatment : Treatment) (tasks : List Task) (behind : List (Frame Value)) → last.control ≡ Treats object treatment tasks ∷ behind
     → NoOperationRunsOn object behind → Halts program last (Erroneous FinalizesTwice) → ⊥
+
+-- The parts that are left to be finalized, where this comes next (7.6.1).
+abbrev pub left_to_finalize : List Shape → List (Frame Value) → List Part
+left_to_finalize shapes (Treats v (frame.ends cause) tasks ∷ k) = parts_left shapes tasks
+left_to_finalize shapes k = []
+
+-- The part of this number of an object is inside of each operation of the object that runs: it lies in the part that is initialized or adjusted, so its value
+-- began before (7.6); or it is left to be finalized behind the Finalize, so its value ends after that (7.6.1). Operations of other objects may run.
+abbrev pub IsInside : List Shape → Value → (number : ℕ) → List (Frame Value) → Type 0
+IsInside shapes v n [] = Unit {0}
+IsInside shapes v n (Awaits w by done of part tasks ∷ k) = (w ≡ v → LiesIn shapes n (record { of = of; number = part })) × IsInside shapes v n k
+IsInside shapes v n (Confines ∷ k) = (finalized_before k ≡ v → Contains (numbers (left_to_finalize shapes k)) n) × IsInside shapes v n k
+IsInside shapes v n (f ∷ k) = IsInside shapes v n k
+
+-- So is all that is left of a treatment of the object.
+abbrev pub TreatsInside : List Shape → Value → List Task → List (Frame Value) → Type 0
+TreatsInside shapes v tasks k = (number : ℕ) → Contains (numbers (parts_left shapes tasks)) number → IsInside shapes v number k
+
+-- While operations of an object run, a treatment of the object that is inside of each of them comes to no value that does not exist: so an operation may assign
+-- to components of its formal parameter (5.2, 7.6, 7.6.1).
+abbrev pub InnerValuesExist : Type 0
+InnerValuesExist =
+    (program : Program) (input : List ℤ) (events : List Event) (last : State) → Run program (first_state program input) events last
+    → (object : Value) (treatment : Treatment) (tasks : List Task) (behind : List (Frame Value)) → last.control ≡ Treats object treatment tasks ∷ behind
+    → TreatsInside (shapes_of program.types.items) object tasks behind → Halts program last (Erroneous FinalizesTwice) → ⊥
+
+-- A frame of code: no object is treated or ended by it, and no record is copied, as between the two treatments of an assignment (5.2).
+abbrev pub is_code : {V : Type 0} → Frame V → Bool
+is_code (Treats v treatment tasks) = false
+is_code (Awaits v by done of part tasks) = false
+is_code Confines = false
+is_code (Copies first t) = false
+is_code (StoresRecord v to width) = false
+is_code (Ends v) = false
+is_code f = true
+
+-- Where code comes next, each part of an object that exists has its value, if it is inside of each operation of the object that runs (7.6, 7.6.1).
+abbrev pub InnerPartsStand : Type 0
+InnerPartsStand =
+    (program : Program) (input : List ℤ) (events : List Event) (last : State) → Run program (first_state program input) events last
+    → (f : Frame Value) (behind : List (Frame Value)) → last.control ≡ f ∷ behind → is_code f ≡ true
+    → (o : Id) (object : Object) → object_at last.heap o ≡ Some object → object.stage ≡ Existing
+    → (number : ℕ) → IsInside (shapes_of program.types.items) (Names o) number behind
+    → (part : PartState) → slice_get object.cell.parts number ≡ Some part → part.alive ≡ true
+
+-- So where the body of an Initialize or an Adjust begins, all that lies in its part has its values, if no other operation of the object runs (7.6).
+abbrev pub BegunInside : Type 0
+BegunInside =
+    (program : Program) (input : List ℤ) (events : List Event) (last : State) → Run program (first_state program input) events last
+    → (declarations : List DeclarationForm) (statements : StmtsForm) (handlers : HandlersForm) (o : Id) (by : Birth) (done : List Part) (of number : ℕ)
+    → (tasks : List Task) (behind : List (Frame Value))
+    → last.control ≡ Elaborates declarations statements handlers ∷ Returns [] [] ∷ Awaits (Names o) by done of number tasks ∷ behind
+    → NoOperationRunsOn (Names o) behind → (object : Object) → object_at last.heap o ≡ Some object
+    → (inner : ℕ) → LiesIn (shapes_of program.types.items) inner (record { of = of; number = number })
+    → (part : PartState) → slice_get object.cell.parts inner ≡ Some part → part.alive ≡ true
+
+-- And where that of a Finalize begins, all that is left to be finalized behind it does (7.6.1).
+abbrev pub LeftToFinalize : Type 0
+LeftToFinalize =
+    (program : Program) (input : List ℤ) (events : List Event) (last : State) → Run program (first_state program input) events last
+    → (declarations : List DeclarationForm) (statements : StmtsForm) (handlers : HandlersForm) (o : Id) (cause : Cause) (tasks : List Task)
+    → (behind : List (Frame Value))
+    → last.control ≡ Elaborates declarations statements handlers ∷ Returns [] [] ∷ Confines ∷ Treats (Names o) (frame.ends cause) tasks ∷ behind
+    → NoOperationRunsOn (Names o) behind → (object : Object) → object_at last.heap o ≡ Some object
+    → (inner : ℕ) → Contains (numbers (parts_left (shapes_of program.types.items) tasks)) inner
+    → (part : PartState) → slice_get object.cell.parts inner ≡ Some part → part.alive ≡ true
 
 -- Behind the body of an operation none does, either, whatever runs there.
 abbrev pub OperationsEndWell : Type 0

@@ -4,3 +4,5 @@
 pub mod Law
 -- runs that meet the premises
 pub mod Example
+-- operations inside of operations
+pub mod Nested

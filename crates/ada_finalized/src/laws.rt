@@ -5,9 +5,11 @@ ghost use Rattle.ada_meaning.specs.Law.{FinalizedTwoValues};
 ghost use Rattle.ada_meaning.specs.Finalization.{BornTwoValues, BornBeforeFinalized, IsBorn, FinalizedByBack, NothingAfterBack};
 ghost use Rattle.ada_meaning.specs.Finalization.{PartsComeFirst, WholesComeFirst, EndsBeforeItAdjusts, InsideIsBegun, FinalizationLaw};
 ghost use Rattle.ada_finalized.specs.Example.{ValuesAreFinalized, InitializationIsUndone, FinalizeIsCalled, FinalizeAssigns};
-ghost use Rattle.ada_finalized.specs.Example.{outer_operations, outer_finalizes, OperationFrees};
+ghost use Rattle.ada_finalized.specs.Example.{outer_operations, outer_finalizes, OperationFrees, OperationAssigns, initialize_events, finalize_events};
+ghost use Rattle.ada_finalized.specs.Nested.{AssignmentsNest};
 ghost use Rattle.ada_finalized.specs.Law.{InEveryRun, NeverFinalizesTwice, OperationsEndWell, TreatedObjectsExist, AllPartsStand, StatementsTreatNothing};
 ghost use Rattle.ada_finalized.specs.Law.{ListedObjectsStand, NoOperationRunsOnListed, TreatedValuesExist, OperatedObjectsExist};
+ghost use Rattle.ada_finalized.specs.Law.{InnerValuesExist, InnerPartsStand, BegunInside, LeftToFinalize};
 
 /// A controlled value comes to exist once, and is finalized once, after that and before the words of its object go back
 /// (7.6, 7.6.1, 13.11.2).
@@ -57,6 +59,17 @@ pub fn other_objects_stand()
     ensures operated_exist { OperatedObjectsExist }
 {}
 
+/// While operations of an object run, what is inside of each of them has its values: it lies in the part that is initialized or
+/// adjusted (7.6), or is left to be finalized behind the Finalize (7.6.1). So no treatment of that comes to a value that does
+/// not exist: an operation may assign to components of its formal parameter (5.2), and so may those that run for what is
+/// finalized and adjusted then.
+pub fn inner_parts_stand()
+    ensures values_exist { InnerValuesExist }
+    ensures parts_stand { InnerPartsStand }
+    ensures begun_inside { BegunInside }
+    ensures left_to_finalize { LeftToFinalize }
+{}
+
 /// All laws of finalization together.
 pub fn runs_keep_the_law()
     ensures { InEveryRun FinalizationLaw }
@@ -68,7 +81,8 @@ pub fn runs_keep_the_law()
 /// begins, and an object is finalized next, while no operation runs; and a statement of Finalize begins while the object is
 /// still finalized. In a fourth one Finalize assigns to its object, and halts the run. So the premise is needed. In two more
 /// Initialize, or Finalize, creates another object, which stands, and frees it: that one is finalized while no operation of
-/// its own runs.
+/// its own runs. In two more Initialize, or Finalize, assigns to a component of its object, inside of the operation: the
+/// component is finalized and adjusted, and the run finishes. In the last one the Finalize of such a component does so, too.
 pub fn premises_are_met()
     ensures finalized { ValuesAreFinalized }
     ensures undone { InitializationIsUndone }
@@ -76,4 +90,7 @@ pub fn premises_are_met()
     ensures assigns { FinalizeAssigns }
     ensures initialize_frees { OperationFrees outer_operations }
     ensures finalize_frees { OperationFrees outer_finalizes }
+    ensures initialize_assigns { OperationAssigns outer_operations initialize_events }
+    ensures finalize_assigns { OperationAssigns outer_finalizes finalize_events }
+    ensures assignments_nest { AssignmentsNest }
 {}

@@ -1,8 +1,9 @@
 -- Procedures that are frugal have frugal bodies, by what is known of all procedures: what is known of the first ones stays known.
 
-use Rattle.std.proofs.Common.{◌≡◌, ℕ, zero, suc, Bool, true, false, ◌&&◌, List, [], ◌∷◌, ◌++◌, length, ◌+◌, ◌<◌, Some, None, refl, sym, ap, ◌∙◌, subst, arith}
-use Rattle.std.specs.Prelude.{not, is_some, Option}
+use Rattle.std.proofs.Common.{◌≡◌, ℕ, zero, suc, Bool, true, false, ◌&&◌, List, [], ◌∷◌, ◌++◌, length, map, ◌+◌, ◌<◌, Some, None, refl, sym, ap, ◌∙◌, subst, arith}
+use Rattle.std.specs.Prelude.{not, ◌==◌, if◌then◌else◌, is_some, Option}
 use Rattle.std.specs.List.{list_all, slice_get, slice_index_or}
+use Rattle.ada_effects.specs.Effects.{record_path_raises}
 use Rattle.ada_program.specs.Form.{RecordPathForm, ItemForm, RightForm, nothing, value_of, allocates, allocates_default, computes, StmtForm, skips, assigns, assigns_record, frees, gets, writes, writes_text, chooses, repeats, counts, exits, calls, returns, raises, encloses, StmtsForm, no_stmts, a_stmt, BranchesForm, otherwise, a_branch, HandlersForm, no_handlers, a_handler, DeclarationForm, creates_pool, collects, declares, declares_record}
 use Rattle.ada_program.specs.declared.program.ComponentKind.{ComponentKind}
 use Rattle.ada_program.specs.declared.program.ComponentKind.TheVariants as component
@@ -11,8 +12,14 @@ use Rattle.ada_program.specs.ProgramForm.{TypeForm, BodyForm, ProgramForm}
 use Rattle.ada_program.specs.WellFormed.{finalization_of, reached_components}
 use Rattle.ada_quiet.specs.Apart.{is_bare_item}
 use Rattle.ada_quiet.specs.Bare.{has_bare_objects}
-use Rattle.ada_quiet.specs.Frugal.{Thrift, allocates_frugally, is_frugal_declaration, are_frugal_declarations, is_frugal_stmt, are_frugal, are_frugal_branches, are_frugal_handlers, is_frugal_body, frugal_from, frugal_procedures, thrift_of}
+use Rattle.ada_quiet.specs.Calm.{inert_types, is_known_calm}
+use Rattle.ada_quiet.specs.Frugal.{Thrift, assigns_at_hand, allocates_frugally, is_bare_initial, is_frugal_declaration, are_frugal_declarations, is_frugal_stmt, are_frugal, are_frugal_branches, are_frugal_handlers, is_frugal_body, frugal_from, frugal_procedures, frugal_operations, thrift_of}
 use Rattle.ada_quiet.proofs.InUse.{others}
+
+-- Of two tests one is chosen in the same way.
+either : (which a b c d : Bool) → (a ≡ true → c ≡ true) → (b ≡ true → d ≡ true) → (if which then a else b) ≡ true → (if which then c else d) ≡ true
+either true a b c d one other h = one h
+either false a b c d one other h = other h
 
 -- All that one list tells to be frugal the other one tells, too.
 abbrev pub TellsMore : (less more : List Bool) → Type 0
@@ -22,9 +29,14 @@ TellsMore less more = (n : ℕ) → slice_index_or less n false ≡ true → sli
 abbrev pub OpensMore : (less more : List ℕ) → Type 0
 OpensMore less more = (t : ℕ) → is_one_of less t ≡ true → is_one_of more t ≡ true
 
--- What frugal bodies go by, where these access types are outermost, and this is known of procedures.
+-- What bodies go by that are called, where these access types are outermost, and this is known of procedures.
 abbrev pub by : List TypeForm → (outermost : List ℕ) → (frugal : List Bool) → Thrift
-by types outermost frugal = record { types = types; outermost = outermost; procedures = frugal }
+by types outermost frugal =
+    record { types = types; outermost = outermost; inert = inert_types types; procedures = frugal; operation = false }
+
+-- Where bodies of one kind are those of operations, those of the other kind are, too.
+abbrev pub OperatesMore : (less more : Bool) → Type 0
+OperatesMore less more = less ≡ true → more ≡ true
 
 -- What names objects of the collections of one list alone does so of the other one.
 module _ (less more : List ℕ) (opens : OpensMore less more) where
@@ -43,9 +55,10 @@ module _ (less more : List ℕ) (opens : OpensMore less more) where
   reached_more None h = refl
   reached_more (Some kinds) h = kinds_more kinds h
 
--- What is frugal by the one is so by the other, which knows at least the same outermost access types and procedures.
-module _ (one other : Thrift) (same : one.types ≡ other.types) (opens : OpensMore one.outermost other.outermost)
-    (tells : TellsMore one.procedures other.procedures) where
+-- What is frugal by the one is so by the other, which knows at least the same outermost access types and procedures, and the same inert types, and is asked of
+-- operations, if the one is.
+module _ (one other : Thrift) (same : one.types ≡ other.types) (opens : OpensMore one.outermost other.outermost) (alike : one.inert ≡ other.inert)
+    (tells : TellsMore one.procedures other.procedures) (operates : OperatesMore one.operation other.operation) where
   -- What is asked of types holds of the same types.
   bare_more : (t : ℕ) → has_bare_objects one.types t ≡ has_bare_objects other.types t
   bare_more t = ap (λ (types : List TypeForm). has_bare_objects types t) same
@@ -57,14 +70,20 @@ module _ (one other : Thrift) (same : one.types ≡ other.types) (opens : OpensM
   right_more (allocates_default access) h = refl
   right_more (computes e) h = refl
 
+  -- So is what a record object names by its components.
+  nests_more : (t : ℕ) → record_nests one.types one.outermost t ≡ true → record_nests other.types other.outermost t ≡ true
+  nests_more t h =
+      ap (λ (types : List TypeForm). record_nests types other.outermost t) (sym same)
+      ∙ reached_more one.outermost other.outermost opens (reached_components one.types t) h
+
   declaration_more : (d : DeclarationForm) → is_frugal_declaration one d ≡ true → is_frugal_declaration other d ≡ true
   declaration_more (creates_pool p) h = h
   declaration_more (collects access) h = h
   declaration_more (declares x right) h = right_more right h
-  declaration_more (declares_record x t None) h =
-      ap (λ (types : List TypeForm). record_nests types other.outermost t) (sym same)
-      ∙ reached_more one.outermost other.outermost opens (reached_components one.types t) h
-  declaration_more (declares_record x t (Some items)) h = h
+  declaration_more (declares_record x t None) h = nests_more t h
+  declaration_more (declares_record x t (Some items)) h =
+      others (record_nests one.types one.outermost t) (is_bare_initial one.types t items) (record_nests other.types other.outermost t)
+      (is_bare_initial other.types t items) (nests_more t) (λ bare. ap (λ (types : List TypeForm). is_bare_initial types t items) (sym same) ∙ bare) h
 
   declarations_more : (ds : List DeclarationForm) → are_frugal_declarations one ds ≡ true → are_frugal_declarations other ds ≡ true
   declarations_more [] h = refl
@@ -72,11 +91,28 @@ module _ (one other : Thrift) (same : one.types ≡ other.types) (opens : OpensM
       others (is_frugal_declaration one d) (are_frugal_declarations one ds) (is_frugal_declaration other d) (are_frugal_declarations other ds)
       (declaration_more d) (declarations_more ds) h
 
-  -- A record that is assigned is so by the types alone.
+  -- So is a record with controlled parts that lies at hand,
+  hand_more : (target : RecordPathForm) → assigns_at_hand one target ≡ true → assigns_at_hand other target ≡ true
+  hand_more target h =
+      let known = λ (inert : List Bool) (types : List TypeForm). is_known_calm inert (finalization_of types target.record_type) in
+      let near = not (record_path_raises target) in
+      let inside = target.object.root == 0 && not (target.part == 0) in
+      others (one.operation && known one.inert one.types && near) inside (other.operation && known other.inert other.types && near) inside
+      (others (one.operation && known one.inert one.types) near (other.operation && known other.inert other.types) near
+      (others one.operation (known one.inert one.types) other.operation (known other.inert other.types) operates
+      (λ calm. sym (ap (λ (inert : List Bool). known inert one.types) alike ∙ ap (known other.inert) same) ∙ calm))
+      (λ is. is))
+      (λ is. is) h
+
+  -- and so is one that is assigned.
   assigned_more : (target : RecordPathForm) (items : List ItemForm) → is_frugal_stmt one (assigns_record target items) ≡ true
       → is_frugal_stmt other (assigns_record target items) ≡ true
   assigned_more target items h =
-      ap (λ (types : List TypeForm). not (is_some (finalization_of types target.record_type)) && list_all (is_bare_item types) items) (sym same) ∙ h
+      let parts = λ (types : List TypeForm). is_some (finalization_of types target.record_type) in
+      let bare = λ (types : List TypeForm). list_all (is_bare_item types) items in
+      ap (λ (b : Bool). if b then assigns_at_hand other target else bare other.types) (sym (ap parts same))
+      ∙ either (parts one.types) (assigns_at_hand one target) (bare one.types) (assigns_at_hand other target) (bare other.types) (hand_more target)
+      (λ is. sym (ap bare same) ∙ is) h
 
   mutual
     stmt_more : (f : StmtForm) → is_frugal_stmt one f ≡ true → is_frugal_stmt other f ≡ true
@@ -171,15 +207,39 @@ module _ (types : List TypeForm) (outermost : List ℕ) where
       let frugal : here ≡ true = sym (kept ∙ append_last known here) ∙ ap (λ (j : ℕ). slice_index_or all j false) (sym first) ∙ told in
       let same : c ≡ b = cc at in
       subst (λ (d : BodyForm). is_frugal_body (by types outermost all) d ≡ true) same
-      (body_more (by types outermost known) (by types outermost all) refl (λ t h. h) (λ j h. from_more more bs j (append_more known (here ∷ []) j h)) c frugal)
+      (body_more (by types outermost known) (by types outermost all) refl (λ t h. h) refl (λ j h. from_more more bs j (append_more known (here ∷ []) j h)) (λ h. h) c frugal)
   from_at known (c ∷ bs) (suc n) i b place at told =
       let here = is_frugal_body (by types outermost known) c in
       from_at (known ++ here ∷ []) bs n i b (omega (arith, place, append_length known here)) at told
 
--- A procedure that is told to be frugal has a frugal body.
+-- What the bodies go by that are called in a program.
+abbrev pub thrift_called : ProgramForm → Thrift
+thrift_called p = record (thrift_of p) { operation = false }
+
+-- A procedure that is told to be frugal has a frugal body, as it is called.
+pub frugal_called : (p : ProgramForm) (number : ℕ) (b : BodyForm) → slice_index_or (frugal_procedures p) number false ≡ true
+    → slice_get p.bodies number ≡ Some b → is_frugal_body (thrift_called p) b ≡ true
+frugal_called p number b told there = from_at p.types (collected p.declarations) [] p.bodies number number b (omega arith) there told
+
+-- What is frugal as it is called is so as an operation.
+pub frugal_more : (p : ProgramForm) (b : BodyForm) → is_frugal_body (thrift_called p) b ≡ true → is_frugal_body (thrift_of p) b ≡ true
+frugal_more p b frugal = body_more (thrift_called p) (thrift_of p) refl (λ t h. h) refl (λ n h. h) (λ h. refl) b frugal
+
+-- So a procedure that is told to be frugal has a body that is frugal as that of an operation, too.
 pub frugal_at : (p : ProgramForm) (number : ℕ) (b : BodyForm) → slice_index_or (frugal_procedures p) number false ≡ true
     → slice_get p.bodies number ≡ Some b → is_frugal_body (thrift_of p) b ≡ true
-frugal_at p number b told there = from_at p.types (collected p.declarations) [] p.bodies number number b (omega arith) there told
+frugal_at p number b told there = frugal_more p b (frugal_called p number b told there)
+
+-- What is told of each element is so of the one of a number.
+told_at : {A : Type 0} (test : A → Bool) (xs : List A) (n : ℕ) (x : A) → slice_index_or (map test xs) n false ≡ true → slice_get xs n ≡ Some x → test x ≡ true
+told_at test [] n x told there = absurd (cc there)
+told_at test (y ∷ xs) zero x told there = let same : y ≡ x = cc there in subst (λ z. test z ≡ true) same told
+told_at test (y ∷ xs) (suc n) x told there = told_at test xs n x told there
+
+-- A procedure that is told to be frugal as an operation has a body that is so.
+pub operation_at : (p : ProgramForm) (number : ℕ) (b : BodyForm) → slice_index_or (frugal_operations p) number false ≡ true
+    → slice_get p.bodies number ≡ Some b → is_frugal_body (thrift_of p) b ≡ true
+operation_at p number b told there = told_at (is_frugal_body (thrift_of p)) p.bodies number b told there
 
 -- Two tests are alike where each one holds if the other one does.
 alike : (a b : Bool) → (a ≡ true → b ≡ true) → (b ≡ true → a ≡ true) → a ≡ b
@@ -188,15 +248,28 @@ alike false true there back = back refl
 alike false false there back = refl
 
 -- It counts only which access types are outermost, and not in which order these stand.
+pub thrift_alike :
+    (one other : Thrift) → one.types ≡ other.types → ((t : ℕ) → is_one_of one.outermost t ≡ is_one_of other.outermost t) → one.inert ≡ other.inert
+    → one.procedures ≡ other.procedures → one.operation ≡ other.operation → (b : BodyForm) → is_frugal_body one b ≡ is_frugal_body other b
+thrift_alike one other types same inert procedures operation b =
+    alike (is_frugal_body one b) (is_frugal_body other b)
+    (body_more one other types (λ t h. sym (same t) ∙ h) inert (λ n h. ap (λ (known : List Bool). slice_index_or known n false) (sym procedures) ∙ h)
+    (λ h. sym operation ∙ h) b)
+    (body_more other one (sym types) (λ t h. same t ∙ h) (sym inert) (λ n h. ap (λ (known : List Bool). slice_index_or known n false) procedures ∙ h)
+    (λ h. operation ∙ h) b)
+
 module _ (types : List TypeForm) (one other : List ℕ) (same : (t : ℕ) → is_one_of one t ≡ is_one_of other t) where
   body_alike : (known : List Bool) (b : BodyForm) → is_frugal_body (by types one known) b ≡ is_frugal_body (by types other known) b
-  body_alike known b =
-      alike (is_frugal_body (by types one known) b) (is_frugal_body (by types other known) b)
-      (body_more (by types one known) (by types other known) refl (λ t h. sym (same t) ∙ h) (λ n h. h) b)
-      (body_more (by types other known) (by types one known) refl (λ t h. same t ∙ h) (λ n h. h) b)
+  body_alike known b = thrift_alike (by types one known) (by types other known) refl same refl refl refl b
 
   pub frugal_alike : (known : List Bool) (bs : List BodyForm) → frugal_from types one known bs ≡ frugal_from types other known bs
   frugal_alike known [] = refl
   frugal_alike known (b ∷ bs) =
       ap (λ (here : Bool). frugal_from types one (known ++ here ∷ []) bs) (body_alike known b)
       ∙ frugal_alike (known ++ is_frugal_body (by types other known) b ∷ []) bs
+
+-- Tests that tell the same tell the same of each element.
+pub tests_alike : {A : Type 0} (one other : A → Bool) → ((x : A) → one x ≡ other x) → (xs : List A) → map one xs ≡ map other xs
+tests_alike one other same [] = refl
+tests_alike one other same (x ∷ xs) =
+    ap (λ (b : Bool). b ∷ map one xs) (same x) ∙ ap (λ (bs : List Bool). other x ∷ bs) (tests_alike one other same xs)

@@ -9,7 +9,7 @@ use Rattle.ada_program.specs.declared.program.Finalization.{Finalization}
 use Rattle.ada_program.specs.declared.program.PartKind.{PartKind}
 use Rattle.ada_program.specs.declared.program.PartKind.TheVariants as part
 use Rattle.ada_program.specs.ProgramForm.{TypeForm, record_of, access_to, object_of, ProgramForm}
-use Rattle.ada_program.specs.WellFormed.{finalization_in, finalization_of, has_number, numbered_types}
+use Rattle.ada_program.specs.WellFormed.{finalization_in, finalization_of, has_number, numbered_types, overrides_nothing}
 use Rattle.ada_quiet.specs.Quiet.{adjusts_access, is_plain_operation, is_quiet_operation}
 
 -- Neither operation of a type that begins or ends an object touches storage: what overrides Initialize is plain, and what overrides Finalize is quiet (7.6).
@@ -57,6 +57,11 @@ calm_by own types = calm_up_to own types (numbered_types types)
 -- Of those of a program, where objects begin and end: no operation is called there that touches storage.
 abbrev pub calm_types : ProgramForm → List Bool
 calm_types p = calm_by (λ t. ends_calmly p (finalization_in (Some t))) p.types
+
+-- Of those of some types of which no operation is overridden, neither of one itself nor of a part of it, at any depth: they are inert, so where values of theirs
+-- begin and end, nothing is called (7.6).
+abbrev pub inert_types : List TypeForm → List Bool
+inert_types types = calm_by (λ t. overrides_nothing (finalization_in (Some t))) types
 
 -- And where objects are copied: no Adjust is called there that tracks components.
 abbrev pub calmly_copied_types : ProgramForm → List Bool

@@ -1,23 +1,30 @@
 -- Bodies of Initialize and Finalize that touch storage, and of procedures that they call (7.6, 4.8, 5.2, 6.4, 13.11.2): they allocate, move, follow and free
--- objects, also some with controlled parts, which are initialized by default, assign records without controlled parts, and declare variables, which may be given
--- what they allocate, and record objects that name objects of the main procedure's collections alone. S10 refuses a Finalize that allocates.
+-- objects, also some with controlled parts, which are initialized by default, assign records, and declare variables, which may be given
+-- what they allocate, and record objects that name objects of the main procedure's collections alone: by default, or without controlled parts and with an
+-- initial value. S10 refuses a Finalize that allocates.
 
-use Rattle.std.specs.Prelude.{ℕ, Bool, true, false, not, ◌&&◌, List, [], ◌∷◌, ◌++◌, Option, Some, None, is_some}
+use Rattle.std.specs.Prelude.{ℕ, Bool, true, false, not, ◌&&◌, ◌==◌, if◌then◌else◌, List, [], ◌∷◌, ◌++◌, map, Option, Some, None, is_some}
 use Rattle.std.specs.List.{list_all, slice_index_or}
-use Rattle.ada_program.specs.Form.{RightForm, nothing, value_of, allocates, allocates_default, computes, StmtForm, skips, assigns, assigns_record, frees, gets, writes, writes_text, chooses, repeats, counts, exits, calls, returns, raises, encloses, StmtsForm, no_stmts, a_stmt, BranchesForm, otherwise, a_branch, HandlersForm, no_handlers, a_handler, DeclarationForm, creates_pool, collects, declares, declares_record}
+use Rattle.ada_effects.specs.Effects.{record_path_raises}
+use Rattle.ada_program.specs.Form.{RecordPathForm, ItemForm, RightForm, nothing, value_of, allocates, allocates_default, computes, StmtForm, skips, assigns, assigns_record, frees, gets, writes, writes_text, chooses, repeats, counts, exits, calls, returns, raises, encloses, StmtsForm, no_stmts, a_stmt, BranchesForm, otherwise, a_branch, HandlersForm, no_handlers, a_handler, DeclarationForm, creates_pool, collects, declares, declares_record}
 use Rattle.ada_program.specs.declared.program.ProcedureNo.{ProcedureNo}
 use Rattle.ada_program.specs.Nested.{collected, record_nests}
 use Rattle.ada_program.specs.ProgramForm.{TypeForm, BodyForm, ProgramForm}
 use Rattle.ada_program.specs.WellFormed.{finalization_of}
 use Rattle.ada_quiet.specs.Apart.{is_bare_item}
 use Rattle.ada_quiet.specs.Bare.{has_bare_objects}
+use Rattle.ada_quiet.specs.Calm.{inert_types, is_known_calm}
+use Rattle.ada_quiet.specs.Idle.{holds_parts}
 
--- What frugal bodies go by: the types of the program; the access types whose collections the main procedure declares; and of each procedure, by its number,
--- whether its body is frugal.
+-- What frugal bodies go by: the types of the program; the access types whose collections the main procedure declares; of each record type with controlled parts,
+-- by its number among these, whether it is inert; of each procedure, by its number, whether its body is frugal where it is called (6.4); and whether the body is
+-- that of an operation (7.6).
 pub record Thrift : Type 0 where
   pub types : List TypeForm
   pub outermost : List ℕ
+  pub inert : List Bool
   pub procedures : List Bool
+  pub operation : Bool
 
 -- What is assigned is no new object (4.8), or one without controlled parts, or one that is initialized by default (7.6).
 abbrev pub allocates_frugally : Thrift → RightForm → Bool
@@ -27,27 +34,39 @@ allocates_frugally thrift (allocates access items) = has_bare_objects thrift.typ
 allocates_frugally thrift (allocates_default access) = true
 allocates_frugally thrift (computes e) = true
 
--- A declaration is that of a variable (3.3.1), and so it is with what that is given at first; or of a record object that is initialized by default, and whose
--- components, at any depth, name objects of outermost collections alone (3.8, 3.10.2): no collection and no pool is created.
+-- A record object without controlled parts may get an initial value, whose items copy no record with some (3.3.1, 4.3.1, 7.6).
+abbrev pub is_bare_initial : List TypeForm → (object_type : ℕ) → List ItemForm → Bool
+is_bare_initial types t items = not (holds_parts types t) && list_all (is_bare_item types) items
+
+-- A declaration is that of a variable (3.3.1), and so it is with what that is given at first; or of a record object that is initialized by default, or that has
+-- no controlled parts, and whose components, at any depth, name objects of outermost collections alone (3.8, 3.10.2): no collection and no pool is created.
 abbrev pub is_frugal_declaration : Thrift → DeclarationForm → Bool
 is_frugal_declaration thrift (creates_pool p) = false
 is_frugal_declaration thrift (collects access) = false
 is_frugal_declaration thrift (declares x right) = allocates_frugally thrift right
 is_frugal_declaration thrift (declares_record x t None) = record_nests thrift.types thrift.outermost t
-is_frugal_declaration thrift (declares_record x t (Some items)) = false
+is_frugal_declaration thrift (declares_record x t (Some items)) = record_nests thrift.types thrift.outermost t && is_bare_initial thrift.types t items
 
 -- So is each of these.
 abbrev pub are_frugal_declarations : Thrift → List DeclarationForm → Bool
 are_frugal_declarations thrift ds = list_all (is_frugal_declaration thrift) ds
 
+-- A record with controlled parts is assigned to as a whole (5.2) in the body of an operation alone, and only where it is inert, and lies at hand: in the formal
+-- parameter, which is the first variable, and is not that as a whole; no access value is followed on the way (4.1).
+abbrev pub assigns_at_hand : Thrift → RecordPathForm → Bool
+assigns_at_hand thrift target =
+    thrift.operation && is_known_calm thrift.inert (finalization_of thrift.types target.record_type) && not (record_path_raises target)
+    && (target.object.root == 0 && not (target.part == 0))
+
 module _ (thrift : Thrift) where
   abbrev mutual
-    -- A statement assigns no record with controlled parts as a whole, and copies none into another one (5.2), gives values to the components of no new object
-    -- with such parts (4.8), and calls procedures with frugal bodies alone (6.4).
+    -- A statement assigns a record with controlled parts as a whole only where that is inert and lies at hand, and copies none into another one (5.2), gives values
+    -- to the components of no new object with such parts (4.8), and calls procedures with frugal bodies alone (6.4).
     pub is_frugal_stmt : StmtForm → Bool
     is_frugal_stmt skips = true
     is_frugal_stmt (assigns target right) = allocates_frugally thrift right
-    is_frugal_stmt (assigns_record target items) = not (is_some (finalization_of thrift.types target.record_type)) && list_all (is_bare_item thrift.types) items
+    is_frugal_stmt (assigns_record target items) =
+        if is_some (finalization_of thrift.types target.record_type) then assigns_at_hand thrift target else list_all (is_bare_item thrift.types) items
     is_frugal_stmt (frees access path) = true
     is_frugal_stmt (gets target) = true
     is_frugal_stmt (writes e) = true
@@ -80,21 +99,32 @@ module _ (thrift : Thrift) where
 abbrev pub is_frugal_body : Thrift → BodyForm → Bool
 is_frugal_body thrift b = are_frugal_declarations thrift b.declarations && are_frugal thrift b.statements && are_frugal_handlers thrift b.handlers
 
--- Of these procedures, behind others: each calls those before it.
+-- Of these procedures, behind others, as they are called: each calls those before it.
 abbrev pub frugal_from : List TypeForm → (outermost : List ℕ) → (frugal : List Bool) → List BodyForm → List Bool
 frugal_from types outermost frugal [] = frugal
 frugal_from types outermost frugal (b ∷ bs) =
-    frugal_from types outermost (frugal ++ is_frugal_body (record { types = types; outermost = outermost; procedures = frugal }) b ∷ []) bs
+    frugal_from types outermost
+    (frugal ++ is_frugal_body (record { types = types; outermost = outermost; inert = inert_types types; procedures = frugal; operation = false }) b ∷ []) bs
 
--- Of the procedures of a program.
+-- Of the procedures of a program, as they are called.
 abbrev pub frugal_procedures : ProgramForm → List Bool
 frugal_procedures p = frugal_from p.types (collected p.declarations) [] p.bodies
 
--- What the frugal bodies of a program go by.
+-- What the frugal bodies of operations go by in a program.
 abbrev pub thrift_of : ProgramForm → Thrift
-thrift_of p = record { types = p.types; outermost = collected p.declarations; procedures = frugal_procedures p }
+thrift_of p = record {
+  types = p.types;
+  outermost = collected p.declarations;
+  inert = inert_types p.types;
+  procedures = frugal_procedures p;
+  operation = true;
+}
+
+-- Of the procedures of a program, whether their bodies are frugal as those of operations.
+abbrev pub frugal_operations : ProgramForm → List Bool
+frugal_operations p = map (is_frugal_body (thrift_of p)) p.bodies
 
 -- What overrides an operation has a frugal body, if one is overridden (7.6).
 abbrev pub is_frugal_operation : ProgramForm → Option ProcedureNo → Bool
 is_frugal_operation p None = true
-is_frugal_operation p (Some procedure) = slice_index_or (frugal_procedures p) procedure.0 false
+is_frugal_operation p (Some procedure) = slice_index_or (frugal_operations p) procedure.0 false

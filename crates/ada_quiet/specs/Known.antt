@@ -11,9 +11,11 @@ use Rattle.ada_quiet.specs.Bare.{record_has_component_of}
 use Rattle.ada_quiet.specs.declared.components.Held.{Held}
 use Rattle.ada_quiet.specs.Frugal.{Thrift}
 
--- What frugal bodies go by, as the code holds it: the types, the collections of the main procedure, and which procedures have frugal bodies.
-abbrev pub thrift_in : List TypeDefinition → (outermost : List ℕ) → (frugal : List Bool) → Thrift
-thrift_in types outermost frugal = record { types = types_in types; outermost = outermost; procedures = frugal }
+-- What frugal bodies go by, as the code holds it: the types, the collections of the main procedure, which record types are inert, which procedures have frugal
+-- bodies where they are called, and whether the body is that of an operation.
+abbrev pub thrift_in : List TypeDefinition → (outermost : List ℕ) → (inert frugal : List Bool) → (operation : Bool) → Thrift
+thrift_in types outermost inert frugal operation =
+    record { types = types_in types; outermost = outermost; inert = inert; procedures = frugal; operation = operation }
 
 -- The procedure or the type of a number is marked. None behind the last mark is.
 abbrev pub is_marked : (marks : List Bool) → (number : ℕ) → Bool

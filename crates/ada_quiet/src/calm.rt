@@ -6,13 +6,15 @@ ghost use Rattle.std.specs.List.{list_all};
 ghost use Rattle.std.specs.Option.{option_copied, option_map};
 ghost use Rattle.ada_program.specs.Kept.{types_in};
 ghost use Rattle.ada_program.specs.ProgramForm.{part_form, program_form, type_form};
-ghost use Rattle.ada_program.specs.WellFormed.{finalization_in};
+ghost use Rattle.ada_program.specs.WellFormed.{finalization_in, overrides_nothing};
 ghost use Rattle.ada_quiet.specs.Calm as rules;
 ghost use Rattle.ada_quiet.specs.Quiet.{adjusts_access};
 
 use crate::marks::has_mark;
 use crate::numbered::numbered_types;
-use crate::operations::{adjusts_access, finalization_in, is_plain_operation, is_quiet_operation};
+use crate::operations::{
+    adjusts_access, finalization_in, is_plain_operation, is_quiet_operation, overrides_nothing,
+};
 use ada_program::parts::finalization_of;
 use ada_program::program::{ComponentKind, Finalization, Part, PartKind, TypeDefinition};
 use ada_program::{Program, TypeNo};
@@ -42,7 +44,7 @@ fn ends_calmly(
 
 /// Whether it is known that a record type is calm, by how its objects are finalized: one without controlled parts is, and of one with some
 /// it is told by its number (7.6).
-fn is_known_calm(calm: &[bool], finalization: Option<Finalization>) -> bool
+pub(crate) fn is_known_calm(calm: &[bool], finalization: Option<Finalization>) -> bool
     ensures { result ≡ rules.is_known_calm calm.now finalization }
 {
     match finalization {
@@ -131,6 +133,40 @@ pub(crate) fn calm_types(alloc: Global, program: &Program) -> Result<Vec<bool>, 
         calm.push(is_calm)?;
     }
     Ok(calm)
+}
+
+/// Whether a type that was found is a record type that is inert. Linear in its components.
+fn is_inert_found(
+    types: &[TypeDefinition],
+    inert: &[bool],
+    definition: Option<&TypeDefinition>,
+) -> bool
+    ensures { result ≡ rules.is_calm_found (λ t. overrides_nothing (finalization_in (Some t)))
+        (types_in types.now) inert.now (option_map type_form (option_copied definition.entry)) }
+{
+    let Some(definition) = definition else {
+        return false;
+    };
+    let own = overrides_nothing(finalization_in(definition));
+    is_calm_type(own, types, inert, definition)
+}
+
+/// Of each record type with controlled parts, by its number among these, whether it is inert: no operation of it is overridden, nor one of
+/// a part of it, so where values of it begin and end, nothing is called (7.6). The types of its components have lesser numbers. Linear in
+/// the types and their components.
+///
+/// # Errors
+/// `AllocError` where memory was refused.
+pub(crate) fn inert_types(alloc: Global, types: &[TypeDefinition]) -> Result<Vec<bool>, AllocError>
+    ensures { IfOk result (λ inert. inert.items ≡ rules.inert_types (types_in types.now)) }
+{
+    let numbered = numbered_types(alloc, types)?;
+    let mut inert = Vec::new(alloc);
+    'numbered: for definition in &numbered {
+        let is_inert = is_inert_found(types, &inert, *definition);
+        inert.push(is_inert)?;
+    }
+    Ok(inert)
 }
 
 /// Whether a type that was found is a record type that is calm where objects are copied. Linear in its components.

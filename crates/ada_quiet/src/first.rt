@@ -12,7 +12,7 @@ ghost use Rattle.ada_quiet.specs.InUse as in_use;
 ghost use Rattle.ada_quiet.specs.InUse.{operations_are_in_use, operations_may_be_called};
 ghost use Rattle.ada_quiet.specs.Quiet as quiet;
 
-use crate::frugal::frugal_procedures;
+use crate::frugal::frugal_operations;
 use crate::idle::{adjusts_nothing, are_idle};
 use crate::operations::has_access;
 use crate::tracking::{adjusts_alone, may_track};
@@ -101,7 +101,7 @@ fn unused_in(
     owns: bool,
     finalization: Option<Finalization>,
 ) -> Result<Option<Spot>, AllocError>
-    requires { frugal.now ≡ spent.frugal_procedures (program_form program.now) }
+    requires { frugal.now ≡ spent.frugal_operations (program_form program.now) }
     ensures { IfOk result (λ first. first
         ≡ rules.unused_in (program_form program.now) may.frugal may.nothing may.tracks may.alone owns finalization) }
 {
@@ -137,7 +137,7 @@ fn first_uncallable(alloc: Global, program: &Program) -> Result<Option<Spot>, Al
     ensures first { IfOk result (IsFirst (BeginsUnused (program_form program.now))) }
     ensures called { IfOk result (λ first. (first ≡ None) ↔ (operations_may_be_called (program_form program.now) ≡ true)) }
 {
-    let frugal = frugal_procedures(alloc, program)?;
+    let frugal = frugal_operations(alloc, program)?;
     let may = allowed_in(alloc, program)?;
     let mut first = None;
     'types: for number in 0..program.types.len() {

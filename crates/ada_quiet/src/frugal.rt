@@ -1,25 +1,29 @@
 //! Declarations, statements and bodies, where they are frugal: they allocate, move, follow and free objects (4.8, 13.11.2), assign records
-//! without controlled parts (5.2), call procedures with frugal bodies alone (6.4), and declare variables, and record objects whose
-//! components, at any depth, name objects of collections that the main procedure declares. These objects, and what they allocate with
-//! controlled parts, are initialized by default (3.3.1, 7.6).
+//! without controlled parts, and in operations inert ones that lie at hand (5.2), call procedures with frugal bodies alone (6.4), and
+//! declare variables, and record objects whose components, at any depth, name objects of collections that the main procedure declares. What
+//! has controlled parts of these objects, and of what they allocate, is initialized by default (3.3.1, 7.6).
 
-ghost use Rattle.std.specs.Prelude.{◌≡◌, ◌&&◌, ◌||◌, ℕ, false, [], map, slice_index_or, IfOk, OnOk};
+ghost use Rattle.std.specs.Prelude.{◌≡◌, ◌&&◌, ◌||◌, ℕ, true, false, [], map, slice_index_or, IfOk, OnOk};
 ghost use Rattle.std.specs.List.{list_all};
 ghost use Rattle.std.specs.Option.{option_copied};
-ghost use Rattle.ada_program.specs.Form.{StmtsForm, branches_form, declaration_form, handlers_form, initial_form, right_form, stmt_form, stmts_form};
+ghost use Rattle.ada_program.specs.Form.{StmtsForm, assigns_record, branches_form, declaration_form, handlers_form, initial_form, item_form, record_path_form, right_form, stmt_form, stmts_form};
 ghost use Rattle.ada_program.specs.Kept.{types_in};
 ghost use Rattle.ada_program.specs.Nested as nested;
 ghost use Rattle.ada_program.specs.ProgramForm.{body_form, program_form};
+ghost use Rattle.ada_quiet.specs.Calm as calm;
 ghost use Rattle.ada_quiet.specs.Frugal as rules;
 ghost use Rattle.ada_quiet.specs.Known.{is_marked, marked_in, thrift_in};
 
 use crate::apart::are_bare_items;
 use crate::bare::has_bare_objects;
+use crate::calm::{inert_types, is_known_calm};
+use crate::idle::holds_parts;
 use crate::marks::{has_mark, mark};
+use ada_effects::record_path_raises;
 use ada_program::lookup::reached_components;
 use ada_program::parts::finalization_of;
 use ada_program::program::{
-    Branch, ComponentKind, Declaration, Handler, Procedure, Right, TypeDefinition,
+    Branch, ComponentKind, Declaration, Handler, Item, Procedure, RecordPath, Right, TypeDefinition,
 };
 use ada_program::{ProcedureNo, Program, Stmt, TypeNo};
 use std::alloc::{AllocError, Global};
@@ -31,8 +35,12 @@ struct Thrift<'a> {
     types: &'a [TypeDefinition],
     /// Marks of the access types whose collections the main procedure declares.
     outermost: &'a [bool],
-    /// Of each procedure that is known, by its number, whether its body is frugal.
+    /// Of each record type with controlled parts, by its number among these, whether it is inert.
+    inert: &'a [bool],
+    /// Of each procedure that is known, by its number, whether its body is frugal where it is called.
     procedures: &'a [bool],
+    /// Whether the body is that of an operation (7.6).
+    operation: bool,
 }
 
 /// Whether a component holds no access value (3.8), or values of an access type that is marked.
@@ -71,7 +79,7 @@ fn record_nests(types: &[TypeDefinition], outermost: &[bool], object: TypeNo) ->
 
 /// Whether what is assigned is no new object (4.8), or one that has no controlled parts, or is initialized by default (7.6).
 fn allocates_frugally(thrift: Thrift<'_>, right: &Right) -> bool
-    ensures { let by = thrift_in thrift.entry.types.now (marked_in thrift.entry.outermost.now) thrift.entry.procedures.now in
+    ensures { let by = thrift_in thrift.entry.types.now (marked_in thrift.entry.outermost.now) thrift.entry.inert.now thrift.entry.procedures.now thrift.entry.operation in
         result ≡ rules.allocates_frugally by (right_form right.now) }
 {
     match right {
@@ -82,7 +90,7 @@ fn allocates_frugally(thrift: Thrift<'_>, right: &Right) -> bool
 
 /// Whether what a variable is given at first is, if it is given something (3.3.1).
 fn initial_allocates_frugally(thrift: Thrift<'_>, initial: &Option<Right>) -> bool
-    ensures { let by = thrift_in thrift.entry.types.now (marked_in thrift.entry.outermost.now) thrift.entry.procedures.now in
+    ensures { let by = thrift_in thrift.entry.types.now (marked_in thrift.entry.outermost.now) thrift.entry.inert.now thrift.entry.procedures.now thrift.entry.operation in
         result ≡ rules.allocates_frugally by (initial_form initial.now) }
 {
     match initial {
@@ -91,10 +99,17 @@ fn initial_allocates_frugally(thrift: Thrift<'_>, initial: &Option<Right>) -> bo
     }
 }
 
+/// Whether a record object has no controlled parts, and neither has what its initial value copies as a whole (3.3.1, 4.3.1, 7.6).
+fn is_bare_initial(types: &[TypeDefinition], object: TypeNo, items: &[Item]) -> bool
+    ensures { result ≡ rules.is_bare_initial (types_in types.now) object.0 (map item_form items.now) }
+{
+    !holds_parts(types, object.0) && are_bare_items(types, items)
+}
+
 /// Whether a declaration is that of a variable, and so it is with what that is given at first (3.3.1), or that of a record object that is
-/// initialized by default, and whose components name objects of outermost collections alone.
+/// initialized by default, or has no controlled parts, and whose components name objects of outermost collections alone.
 fn is_frugal_declaration(thrift: Thrift<'_>, declaration: &Declaration) -> bool
-    ensures { let by = thrift_in thrift.entry.types.now (marked_in thrift.entry.outermost.now) thrift.entry.procedures.now in
+    ensures { let by = thrift_in thrift.entry.types.now (marked_in thrift.entry.outermost.now) thrift.entry.inert.now thrift.entry.procedures.now thrift.entry.operation in
         result ≡ rules.is_frugal_declaration by (declaration_form declaration.now) }
 {
     match declaration {
@@ -109,16 +124,19 @@ fn is_frugal_declaration(thrift: Thrift<'_>, declaration: &Declaration) -> bool
         } => record_nests(thrift.types, thrift.outermost, *object),
         Declaration::Record {
             variable: _,
-            object: _,
-            initial: Some(_),
-        } => false,
+            object,
+            initial: Some(items),
+        } => {
+            record_nests(thrift.types, thrift.outermost, *object)
+                && is_bare_initial(thrift.types, *object, items)
+        }
         Declaration::Pool(_) | Declaration::Collection(_) => false,
     }
 }
 
 /// Whether each of these declarations is.
 fn are_frugal_declarations(thrift: Thrift<'_>, declarations: &[Declaration]) -> bool
-    ensures { let by = thrift_in thrift.entry.types.now (marked_in thrift.entry.outermost.now) thrift.entry.procedures.now in
+    ensures { let by = thrift_in thrift.entry.types.now (marked_in thrift.entry.outermost.now) thrift.entry.inert.now thrift.entry.procedures.now thrift.entry.operation in
         result ≡ rules.are_frugal_declarations by (map declaration_form declarations.now) }
 {
     'declarations: for declaration in declarations {
@@ -130,7 +148,7 @@ fn are_frugal_declarations(thrift: Thrift<'_>, declarations: &[Declaration]) -> 
 }
 
 /// Whether what is called has a frugal body, by what is known of the procedures (6.4).
-pub(crate) fn is_frugal_call(frugal: &[bool], procedure: ProcedureNo) -> bool
+fn is_frugal_call(frugal: &[bool], procedure: ProcedureNo) -> bool
     ensures { result ≡ slice_index_or frugal.now procedure.0 false }
 {
     match frugal.get(procedure.0) {
@@ -139,12 +157,40 @@ pub(crate) fn is_frugal_call(frugal: &[bool], procedure: ProcedureNo) -> bool
     }
 }
 
-/// Whether a statement assigns no record with controlled parts as a whole, and copies none into another one (5.2), gives values to the
-/// components of no new object with such parts (4.8), and calls procedures with frugal bodies alone (6.4).
+/// Whether the body is that of an operation, and a record with controlled parts that it assigns to as a whole (5.2) is inert, and lies at
+/// hand: in the formal parameter, which is the first variable, and is not that as a whole; no access
+/// value is followed on the way (4.1).
+fn assigns_at_hand(thrift: Thrift<'_>, target: &RecordPath) -> bool
+    ensures { let by = thrift_in thrift.entry.types.now (marked_in thrift.entry.outermost.now) thrift.entry.inert.now thrift.entry.procedures.now thrift.entry.operation in
+        result ≡ rules.assigns_at_hand by (record_path_form target.now) }
+{
+    let inside = target.object.root.0 == 0 && target.part.0 != 0;
+    thrift.operation
+        && is_known_calm(thrift.inert, finalization_of(thrift.types, target.record.0))
+        && !record_path_raises(target)
+        && inside
+}
+
+/// Whether a record that is assigned to as a whole lies so, if it has controlled parts; and else whether nothing is copied into it that
+/// has some (5.2).
+fn assigns_frugally(thrift: Thrift<'_>, target: &RecordPath, items: &[Item]) -> bool
+    ensures { let by = thrift_in thrift.entry.types.now (marked_in thrift.entry.outermost.now) thrift.entry.inert.now thrift.entry.procedures.now thrift.entry.operation in
+        result ≡ rules.is_frugal_stmt by (assigns_record (record_path_form target.now) (map item_form items.now)) }
+{
+    if finalization_of(thrift.types, target.record.0).is_some() {
+        assigns_at_hand(thrift, target)
+    } else {
+        are_bare_items(thrift.types, items)
+    }
+}
+
+/// Whether a statement assigns a record with controlled parts as a whole only where that is inert and lies at hand, and copies none into
+/// another one (5.2), gives values to the components of no new object with such parts (4.8), and calls procedures with frugal bodies alone
+/// (6.4).
 #[cycle(statements)]
 #[tactic(auto, using(std::proofs::lemmas::Grind::common_steps, ada_program::specs::Form::statement_rules))]
 fn is_frugal_stmt(thrift: Thrift<'_>, statement: &Stmt) -> bool
-    ensures { let by = thrift_in thrift.entry.types.now (marked_in thrift.entry.outermost.now) thrift.entry.procedures.now in
+    ensures { let by = thrift_in thrift.entry.types.now (marked_in thrift.entry.outermost.now) thrift.entry.inert.now thrift.entry.procedures.now thrift.entry.operation in
         result ≡ rules.is_frugal_stmt by (stmt_form statement.now) }
 {
     match statement {
@@ -156,10 +202,7 @@ fn is_frugal_stmt(thrift: Thrift<'_>, statement: &Stmt) -> bool
         | Stmt::Exit { .. }
         | Stmt::Return(_)
         | Stmt::Raise(_) => true,
-        Stmt::AssignRecord { target, items } => {
-            finalization_of(thrift.types, target.record.0).is_none()
-                && are_bare_items(thrift.types, items)
-        }
+        Stmt::AssignRecord { target, items } => assigns_frugally(thrift, target, items),
         Stmt::Assign { target: _, value } => allocates_frugally(thrift, value),
         Stmt::Call {
             procedure,
@@ -194,7 +237,7 @@ fn is_frugal_stmt(thrift: Thrift<'_>, statement: &Stmt) -> bool
 /// Whether statements are frugal.
 #[cycle(statements)]
 fn are_frugal(thrift: Thrift<'_>, statements: &[Stmt]) -> bool
-    ensures { let by = thrift_in thrift.entry.types.now (marked_in thrift.entry.outermost.now) thrift.entry.procedures.now in
+    ensures { let by = thrift_in thrift.entry.types.now (marked_in thrift.entry.outermost.now) thrift.entry.inert.now thrift.entry.procedures.now thrift.entry.operation in
         result ≡ rules.are_frugal by (stmts_form statements.now) }
 {
     'statements: for statement in statements {
@@ -208,7 +251,7 @@ fn are_frugal(thrift: Thrift<'_>, statements: &[Stmt]) -> bool
 /// Whether branches are (5.3).
 #[cycle(statements)]
 fn are_frugal_branches(thrift: Thrift<'_>, branches: &[Branch]) -> bool
-    ensures { let by = thrift_in thrift.entry.types.now (marked_in thrift.entry.outermost.now) thrift.entry.procedures.now in
+    ensures { let by = thrift_in thrift.entry.types.now (marked_in thrift.entry.outermost.now) thrift.entry.inert.now thrift.entry.procedures.now thrift.entry.operation in
         (others : StmtsForm) → rules.are_frugal_branches by (branches_form branches.now others) ≡ (result && rules.are_frugal by others) }
 {
     'branches: for branch in branches {
@@ -222,7 +265,7 @@ fn are_frugal_branches(thrift: Thrift<'_>, branches: &[Branch]) -> bool
 /// Whether handlers are (11.2).
 #[cycle(statements)]
 fn are_frugal_handlers(thrift: Thrift<'_>, handlers: &[Handler]) -> bool
-    ensures { let by = thrift_in thrift.entry.types.now (marked_in thrift.entry.outermost.now) thrift.entry.procedures.now in
+    ensures { let by = thrift_in thrift.entry.types.now (marked_in thrift.entry.outermost.now) thrift.entry.inert.now thrift.entry.procedures.now thrift.entry.operation in
         result ≡ rules.are_frugal_handlers by (handlers_form handlers.now) }
 {
     'handlers: for handler in handlers {
@@ -233,11 +276,12 @@ fn are_frugal_handlers(thrift: Thrift<'_>, handlers: &[Handler]) -> bool
     true
 }
 
-/// Whether a body is frugal: it allocates objects, moves, follows and frees; it calls procedures with frugal bodies alone, assigns no
-/// record with controlled parts as a whole, gives values to the components of no new one, and declares variables, and record objects whose
-/// components name objects of outermost collections alone. An exception may come out of it. Linear in the body.
+/// Whether a body is frugal: it allocates objects, moves, follows and frees; it calls procedures with frugal bodies alone, assigns records
+/// with controlled parts as wholes only where these are inert and lie at hand, and it is that of an operation, gives values to the
+/// components of no new one, and declares variables, and record objects whose components name objects of outermost collections alone. An
+/// exception may come out of it. Linear in the body.
 fn is_frugal_body(thrift: Thrift<'_>, procedure: &Procedure) -> bool
-    ensures { let by = thrift_in thrift.entry.types.now (marked_in thrift.entry.outermost.now) thrift.entry.procedures.now in
+    ensures { let by = thrift_in thrift.entry.types.now (marked_in thrift.entry.outermost.now) thrift.entry.inert.now thrift.entry.procedures.now thrift.entry.operation in
         result ≡ rules.is_frugal_body by (body_form procedure.now) }
 {
     are_frugal_declarations(thrift, &procedure.declarations)
@@ -258,12 +302,31 @@ fn mark_collected(marks: &mut Vec<bool>, declarations: &[Declaration]) -> Result
     Ok(())
 }
 
-/// Of each procedure, by its number, whether its body is frugal, where these access types are outermost: it calls those before it. Linear
-/// in the bodies.
+/// Marks of the access types whose collections the main procedure declares. Linear in its declarations, and in the types.
 ///
 /// # Errors
 /// `AllocError` where memory was refused.
-fn frugal_by(alloc: Global, program: &Program, outermost: &[bool]) -> Result<Vec<bool>, AllocError>
+fn outermost_collections(alloc: Global, program: &Program) -> Result<Vec<bool>, AllocError>
+    ensures { IfOk result (λ marks. (t : ℕ) → is_marked marks.items t
+        ≡ nested.is_one_of (nested.collected (program_form program.now).declarations) t) }
+{
+    let mut outermost = Vec::new(alloc);
+    mark_collected(&mut outermost, &program.declarations)?;
+    Ok(outermost)
+}
+
+/// Of each procedure, by its number, whether its body is frugal where it is called, where these access types are outermost, and these types
+/// inert: it calls those before it. Linear in the bodies.
+///
+/// # Errors
+/// `AllocError` where memory was refused.
+fn frugal_by(
+    alloc: Global,
+    program: &Program,
+    outermost: &[bool],
+    inert: &[bool],
+) -> Result<Vec<bool>, AllocError>
+    requires { inert.now ≡ calm.inert_types (program_form program.now).types }
     ensures { IfOk result (λ frugal. frugal.items
         ≡ rules.frugal_from (program_form program.now).types (marked_in outermost.now) [] (program_form program.now).bodies) }
 {
@@ -272,7 +335,9 @@ fn frugal_by(alloc: Global, program: &Program, outermost: &[bool]) -> Result<Vec
         let thrift = Thrift {
             types: &program.types,
             outermost,
+            inert,
             procedures: &frugal,
+            operation: false,
         };
         let is_frugal = is_frugal_body(thrift, procedure);
         frugal.push(is_frugal)?;
@@ -280,14 +345,45 @@ fn frugal_by(alloc: Global, program: &Program, outermost: &[bool]) -> Result<Vec
     Ok(frugal)
 }
 
-/// Of each procedure, by its number, whether its body is frugal. Linear in the types and the bodies.
+/// Of each procedure, by its number, whether its body is frugal as that of an operation, where this is known. Linear in the bodies.
 ///
 /// # Errors
 /// `AllocError` where memory was refused.
-pub(crate) fn frugal_procedures(alloc: Global, program: &Program) -> Result<Vec<bool>, AllocError>
-    ensures { IfOk result (λ frugal. frugal.items ≡ rules.frugal_procedures (program_form program.now)) }
+fn frugal_operations_by(
+    alloc: Global,
+    program: &Program,
+    outermost: &[bool],
+    inert: &[bool],
+    procedures: &[bool],
+) -> Result<Vec<bool>, AllocError>
+    ensures { IfOk result (λ frugal. frugal.items
+        ≡ map (rules.is_frugal_body (thrift_in program.now.types.items (marked_in outermost.now) inert.now procedures.now true))
+        (program_form program.now).bodies) }
 {
-    let mut outermost = Vec::new(alloc);
-    mark_collected(&mut outermost, &program.declarations)?;
-    frugal_by(alloc, program, &outermost)
+    let thrift = Thrift {
+        types: &program.types,
+        outermost,
+        inert,
+        procedures,
+        operation: true,
+    };
+    let mut frugal = Vec::new(alloc);
+    'procedures: for procedure in &program.procedures {
+        let is_frugal = is_frugal_body(thrift, procedure);
+        frugal.push(is_frugal)?;
+    }
+    Ok(frugal)
+}
+
+/// Of each procedure, by its number, whether its body is frugal as that of an operation. Linear in the types and the bodies.
+///
+/// # Errors
+/// `AllocError` where memory was refused.
+pub(crate) fn frugal_operations(alloc: Global, program: &Program) -> Result<Vec<bool>, AllocError>
+    ensures { IfOk result (λ frugal. frugal.items ≡ rules.frugal_operations (program_form program.now)) }
+{
+    let outermost = outermost_collections(alloc, program)?;
+    let inert = inert_types(alloc, &program.types)?;
+    let procedures = frugal_by(alloc, program, &outermost, &inert)?;
+    frugal_operations_by(alloc, program, &outermost, &inert, &procedures)
 }

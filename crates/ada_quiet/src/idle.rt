@@ -18,7 +18,7 @@ use ada_program::{Program, Stmt};
 use std::alloc::{AllocError, Global};
 
 /// Whether the objects have controlled parts that an access type designates, or that are known by a type (3.10, 3.3.1).
-fn holds_parts(types: &[TypeDefinition], number: usize) -> bool
+pub(crate) fn holds_parts(types: &[TypeDefinition], number: usize) -> bool
     ensures { result ≡ rules.holds_parts (types_in types.now) number }
 {
     match types.get(number) {

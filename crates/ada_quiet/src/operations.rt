@@ -10,7 +10,7 @@ ghost use Rattle.ada_quiet.specs.Quiet as rules;
 ghost use Rattle.ada_quiet.specs.Simple as simple;
 
 use crate::bodies::{is_plain_body, is_quiet_body};
-use crate::frugal::is_frugal_call;
+use crate::marks::has_mark;
 use crate::simple::is_simple_body;
 use ada_program::program::{ComponentKind, Finalization, Part, PartKind, TypeDefinition};
 use ada_program::{ProcedureNo, Program};
@@ -49,13 +49,13 @@ pub(crate) fn is_quiet_operation(
     is_quiet_body(alloc, &program.types, procedure)
 }
 
-/// Whether it has a frugal one, by the procedures whose bodies are so.
+/// Whether it has a frugal one, by the procedures whose bodies are so as those of operations.
 pub(crate) fn is_frugal_operation(frugal: &[bool], operation: Option<ProcedureNo>) -> bool
-    ensures { (p : ProgramForm) → frugal.now ≡ spent.frugal_procedures p → result ≡ spent.is_frugal_operation p operation }
+    ensures { (p : ProgramForm) → frugal.now ≡ spent.frugal_operations p → result ≡ spent.is_frugal_operation p operation }
 {
     match operation {
         None => true,
-        Some(procedure) => is_frugal_call(frugal, procedure),
+        Some(procedure) => has_mark(frugal, procedure.0),
     }
 }
 
@@ -161,6 +161,18 @@ pub(crate) fn finalization_in(definition: &TypeDefinition) -> Option<Finalizatio
             finalization,
         } => *finalization,
         TypeDefinition::Access { .. } | TypeDefinition::Object { .. } => None,
+    }
+}
+
+/// Whether a type overrides no operation.
+pub(crate) fn overrides_nothing(finalization: Option<Finalization>) -> bool
+    ensures { result ≡ fits.overrides_nothing finalization }
+{
+    match finalization {
+        None => true,
+        Some(finalization) => finalization.operations.initialize.is_none()
+            && finalization.operations.adjust.is_none()
+            && finalization.operations.finalize.is_none(),
     }
 }
 

@@ -3,7 +3,7 @@
 ghost use Rattle.std.specs.Prelude.{◌≡◌, IfOk};
 ghost use Rattle.ada_program.specs.ProgramForm.{program_form, type_form};
 ghost use Rattle.ada_quiet.specs.First as first;
-ghost use Rattle.ada_quiet.specs.Frugal.{frugal_procedures};
+ghost use Rattle.ada_quiet.specs.Frugal.{frugal_operations};
 ghost use Rattle.ada_quiet.specs.InUse as rules;
 
 use crate::apart::operations_stand_apart;
@@ -63,7 +63,7 @@ pub(crate) fn uses_initialize(
     frugal: bool,
     operation: Option<ProcedureNo>,
 ) -> bool
-    requires { procedures.now ≡ frugal_procedures (program_form program.now) }
+    requires { procedures.now ≡ frugal_operations (program_form program.now) }
     ensures { result ≡ first.initializes (program_form program.now) frugal operation }
 {
     is_plain_operation(program, operation) || frugal && is_frugal_operation(procedures, operation)
@@ -85,7 +85,7 @@ pub(crate) fn uses_adjust(
     owns: bool,
     operation: Option<ProcedureNo>,
 ) -> Result<bool, AllocError>
-    requires { procedures.now ≡ frugal_procedures (program_form program.now) }
+    requires { procedures.now ≡ frugal_operations (program_form program.now) }
     ensures { IfOk result (λ answer. answer ≡ first.adjusts (program_form program.now) nothing tracks alone owns operation) }
 {
     if nothing && is_frugal_operation(procedures, operation) {
@@ -108,7 +108,7 @@ pub(crate) fn uses_finalize(
     frugal: bool,
     operation: Option<ProcedureNo>,
 ) -> Result<bool, AllocError>
-    requires { procedures.now ≡ frugal_procedures (program_form program.now) }
+    requires { procedures.now ≡ frugal_operations (program_form program.now) }
     ensures { IfOk result (λ answer. answer ≡ first.finalizes (program_form program.now) frugal operation) }
 {
     Ok(

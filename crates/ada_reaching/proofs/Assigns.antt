@@ -1,21 +1,22 @@
 -- What a body assigns that shuns some access types, and what it reads to (5.2).
 
-use Rattle.std.proofs.Common.{◌≡◌, ℕ, Bool, true, false, ℤ, List, [], ◌∷◌, drop, Option, Some, None, refl}
+use Rattle.std.proofs.Common.{◌≡◌, ℕ, Bool, true, false, ℤ, List, [], ◌∷◌, drop, Option, Some, None, refl, ◌⊎◌, inl, inr}
 use Rattle.std.specs.List.{list_all, slice_get}
+use Rattle.std.proofs.lemmas.Bool.{and_parts}
 use Rattle.ada_program.specs.declared.program.Exception.TheVariants.{ConstraintError, EndError}
 use Rattle.ada_program.specs.declared.program.VariableKind.{VariableKind}
-use Rattle.ada_program.specs.Form.{RecordPathForm, ItemForm, RightForm}
+use Rattle.ada_program.specs.Form.{RecordPathForm, ItemForm, item_of_record, RightForm}
 use Rattle.ada_program.specs.WellFormed.{variable_kind}
 use Rattle.ada_meaning.specs.declared.state.Mode.TheVariants.{Raising}
 use Rattle.ada_meaning.specs.declared.state.Value.{Value}
 use Rattle.ada_meaning.specs.Event.{Quiet}
 use Rattle.ada_meaning.specs.Frame as frame
 use Rattle.ada_meaning.specs.Heap.{Cell, Found, on_null, on_gone, on_other, finds}
-use Rattle.ada_meaning.specs.Step.{moves, at, operands, newest_ones, without_newest, record_in, assign_next, target_next, stored_next, store_next, record_assign_next, record_target_next, stored_from, record_stored_next, store_record_next, gets_next, received_next, receive_next, put}
+use Rattle.ada_meaning.specs.Step.{moves, at, operands, newest_ones, without_newest, record_in, assign_next, target_next, stored_next, store_next, copy_next, record_assign_next, record_target_next, stored_from, record_stored_next, store_record_next, gets_next, received_next, receive_next, put}
 use Rattle.ada_meaning.specs.Named.{State, named, look, filled, store, an_integer}
 use Rattle.ada_untouched.specs.Untouched.{IsInSight}
 use Rattle.ada_reaching.specs.Reaching.{IsElsewhere}
-use Rattle.ada_reaching.specs.Forms.{may_follow, selectors_shun, item_shuns, right_shuns}
+use Rattle.ada_reaching.specs.Forms.{may_follow, record_path_shuns, selectors_shun, item_shuns, right_shuns}
 use Rattle.ada_reaching.proofs.Elsewhere.{elsewhere_drop}
 use Rattle.ada_reaching.proofs.Going.{World, variables_in, Goes, ValueSeeks, operands_run, changed_run, stored_run, stays, jumps, put_runs}
 use Rattle.ada_reaching.proofs.Paths.{Sound, in_sight, holder_goes, record_goes}
@@ -70,15 +71,29 @@ module _ (w : World) where
   store_goes o c v on_other s sight r h anew = tt
   store_goes o c v (finds cell) s sight r h anew = stored_goes o c v (slice_get cell.values c) s sight r h anew
 
-  -- The bodies go on as an assignment to a record begins that has no controlled parts.
+  -- The bodies go on as a record is assigned to another one that has controlled parts, and may be assigned to so (7.6).
+  copied_goes :
+      (target : RecordPathForm) (items : List ItemForm) (s : State) → record_path_shuns w.p.types w.shuns w.apart (variables_in w) target ≡ true
+      → list_all (item_shuns w.p.types w.shuns w.apart (variables_in w)) items ≡ true → w.apart.assigns target.record_type ≡ true
+      → Goes w s (copy_next named target items s)
+  copied_goes target (item_of_record source ∷ []) s leads all may r h anew =
+      let one = and_parts (record_path_shuns w.p.types w.shuns w.apart (variables_in w) source) true all in
+      stays w (at (frame.Refers target ∷ frame.Refers source ∷ frame.Assigns target.record_type ∷ s.control) s) r
+      (leads, refl, (one.0, refl, (may, anew, h))) refl
+  copied_goes target items s leads all may r h anew = tt
+
+  -- The bodies go on as an assignment to a record begins that has no controlled parts, or may be assigned to though it has some.
   pub record_assign_goes :
-      (parts : Bool) (target : RecordPathForm) (to : VariableKind) (items : List ItemForm) (s : State) → parts ≡ false → Sound w s
+      (parts : Bool) (target : RecordPathForm) (to : VariableKind) (items : List ItemForm) (s : State)
+      → (parts ≡ false) ⊎ (w.apart.assigns target.record_type ≡ true) → Sound w s
+      → record_path_shuns w.p.types w.shuns w.apart (variables_in w) target ≡ true
       → IsRooted w.p.types (variables_in w) target.object.root target.object.selectors to
       → selectors_shun w.p.types w.shuns (variable_kind (variables_in w) target.object.root) target.object.selectors ≡ true
       → may_follow w.shuns (Some to) ≡ true → list_all (item_shuns w.p.types w.shuns w.apart (variables_in w)) items ≡ true
       → Goes w s (record_assign_next named parts target items s)
-  record_assign_goes true target to items s bare sound root shun may all r h anew = absurd (cc)
-  record_assign_goes false target to items s bare sound root shun may all r h anew =
+  record_assign_goes true target to items s (inl bare) sound leads root shun may all r h anew = absurd (cc)
+  record_assign_goes true target to items s (inr assigned) sound leads root shun may all r h anew = copied_goes target items s leads all assigned r h anew
+  record_assign_goes false target to items s either sound leads root shun may all r h anew =
       record_goes w target to (λ place. frame.TargetsRecord place.component target.record_type items) s sound root shun may r
       (λ place. (all, anew, h)) (λ place. refl) (λ may_seek u place is_may. is_may)
 

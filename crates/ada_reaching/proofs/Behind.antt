@@ -167,6 +167,9 @@ module _ (p : ProgramForm) (shuns : ℕ → Bool) (apart : Apart) (ghosts unname
   left_longer procedure (frame.Declares x ∷ k) (m ∷ ms) suspended left =
       let longer = left_longer procedure k (m ∷ ms) suspended left.2 in omega (arith, longer)
   left_longer procedure (frame.Declares x ∷ k) [] suspended left = absurd (left.2)
+  left_longer procedure (frame.DeclaresRecord x t ∷ k) (m ∷ ms) suspended left =
+      let longer = left_longer procedure k (m ∷ ms) suspended left.2 in omega (arith, longer)
+  left_longer procedure (frame.DeclaresRecord x t ∷ k) [] suspended left = absurd (left.2)
   left_longer procedure (f ∷ k) ms suspended left = let longer = left_longer procedure k ms suspended left.2 in omega (arith, longer)
 
   -- So an operation for which they wait is not behind all of them.

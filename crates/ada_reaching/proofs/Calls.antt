@@ -44,7 +44,7 @@ AreParts [] = Unit {0}
 AreParts (r ∷ rs) = IsPart r × AreParts rs
 
 -- What refers to a component leads to no ghost, where it refers elsewhere.
-referred_sight : (ghosts unnamed : Id → Bool) (r : Value) → IsPart r → IsElsewhere ghosts unnamed r → IsInSight ghosts (whole r)
+pub referred_sight : (ghosts unnamed : Id → Bool) (r : Value) → IsPart r → IsElsewhere ghosts unnamed r → IsInSight ghosts (whole r)
 referred_sight ghosts unnamed Null part other = absurd part
 referred_sight ghosts unnamed (Names o) part other = absurd part
 referred_sight ghosts unnamed (Scalar v) part other = absurd part

@@ -11,8 +11,9 @@ use Rattle.ada_program.specs.declared.program.VariableKind.{VariableKind}
 use Rattle.ada_program.specs.declared.program.VariableKind.TheVariants as variable
 use Rattle.ada_program.specs.Form.{PathForm, RecordPathForm, ActualForm, in_value, in_null, in_access, in_record, in_out_path, in_out_access, in_out_component, in_out_record, ExpressionForm, integer, boolean, reads, is_null, applied_to, chained, LinksForm, no_more_links, a_link, ItemForm, null_item, item_of_path, item_of_value, item_of_record, RightForm, nothing, value_of, allocates, allocates_default, computes, DeclarationForm, creates_pool, collects, declares, declares_record, StmtForm, skips, assigns, assigns_record, frees, gets, writes, writes_text, chooses, repeats, counts, exits, calls, returns, raises, encloses, StmtsForm, no_stmts, a_stmt, BranchesForm, otherwise, a_branch, HandlersForm, no_handlers, a_handler}
 use Rattle.ada_program.specs.ProgramForm.{TypeForm, VariableForm, BodyForm, ProgramForm, program_form, nowhere}
-use Rattle.ada_program.specs.WellFormed.{IsWellFormed, designated_in, designated_type, finalization_of, is_access, is_this, path_access, path_kind, selected_kind, type_fits, value_access, variable_fits, variable_kind}
+use Rattle.ada_program.specs.WellFormed.{IsWellFormed, designated_in, designated_type, is_access, is_this, path_access, path_kind, selected_kind, type_fits, value_access, variable_fits, variable_kind}
 use Rattle.ada_quiet.specs.Bare.{has_bare_objects}
+use Rattle.ada_quiet.specs.Idle.{holds_parts}
 use Rattle.ada_deeds.specs.declared.deed.Callee.{Callee}
 use Rattle.ada_deeds.specs.declared.deed.Callee.TheVariants as callee
 use Rattle.ada_deeds.specs.declared.deed.Deed.{Deed}
@@ -26,7 +27,7 @@ use Rattle.ada_deeds.proofs.Naming.{KindFits, variable_fits_kind, path_fits_kind
 use Rattle.ada_deeds.proofs.Within.{counts_are_enough}
 use Rattle.ada_typed.proofs.Bodies.{SeenFits, seen_as, seen_fits}
 use Rattle.ada_reaching.specs.Apart.{Apart}
-use Rattle.ada_reaching.specs.Forms.{may_end, may_follow, selectors_shun, path_shuns, record_path_shuns, expression_shuns, links_shun, condition_shuns, item_shuns, right_shuns, actual_shuns, declaration_shuns, declarations_shun, statement_shuns, statements_shun, branches_shun, handlers_shun}
+use Rattle.ada_reaching.specs.Forms.{may_assign, may_end, may_follow, selectors_shun, path_shuns, record_path_shuns, expression_shuns, links_shun, condition_shuns, item_shuns, right_shuns, actual_shuns, declaration_shuns, declarations_shun, statement_shuns, statements_shun, branches_shun, handlers_shun}
 use Rattle.ada_reaching.specs.Law.{AreApart}
 use Rattle.ada_reaching.specs.Deeds.{AreShaped, UseNone, UnusedObjectsAreUntouched}
 use Rattle.ada_reaching.proofs.Law.{shunned_untouched}
@@ -250,7 +251,10 @@ module _ (types : List TypeForm) (shuns : ℕ → Bool) (apart : Apart) where
       declaration_idle (collects access) shape none = absurd (cc shape)
       declaration_idle (declares x right) shape none = right_idle right shape none
       declaration_idle (declares_record x object None) shape none = shape
-      declaration_idle (declares_record x object (Some items)) shape none = absurd (cc shape)
+      declaration_idle (declares_record x object (Some items)) shape none =
+          let bare = not (holds_parts types object) in
+          let shapes = and_parts bare (list_all (item_shuns types (λ t. false) apart variables) items) shape in
+          and_from bare (list_all (item_shuns types shuns apart variables) items) shapes.0 (items_idle items shapes.1 none)
 
       declarations_idle :
           (ds : List DeclarationForm) → declarations_shun types (λ t. false) apart variables ds ≡ true
@@ -311,7 +315,7 @@ module _ (types : List TypeForm) (shuns : ℕ → Bool) (apart : Apart) where
             and_from (path_shuns types shuns apart variables target) (right_shuns types shuns apart variables right)
             (path_idle target (first is_use path given none)) (right_idle right shapes.1 (second is_use path given none))
         statement_idle (assigns_record target items) shape none =
-            let bare = not (is_some (finalization_of types target.record_type)) in
+            let bare = may_assign types apart target.record_type in
             let shapes =
             and_parts (record_path_shuns types (λ t. false) apart variables target && list_all (item_shuns types (λ t. false) apart variables) items) bare shape in
             let inner = and_parts (record_path_shuns types (λ t. false) apart variables target) (list_all (item_shuns types (λ t. false) apart variables) items) shapes.0 in

@@ -74,6 +74,7 @@ beside = record {
   calls = λ procedure. (procedure == 0) || (procedure == 2);
   ends = λ t. t == 5;
   starts = λ t. t == 5;
+  assigns = λ r. false;
   definitions = declared_types;
 }
 
@@ -104,6 +105,7 @@ both_apart shunned one other = record {
     finalizes = λ access of part number tasks ends left overrides. ap beside.calls (overrides_third of number overrides);
     initializes = λ access of part number starts begun overrides. absurd (initializes_none of number overrides);
     undoes = λ access of part number starts begun overrides. ap beside.calls (overrides_third of number overrides);
+    assigns_quietly = λ direction record_type of part tasks assigned left. absurd (cc assigned);
   };
 }
 

@@ -96,6 +96,7 @@ beside = record {
   calls = λ procedure. (procedure == 0) || (procedure == 2);
   ends = λ access. access == 3;
   starts = λ access. false;
+  assigns = λ r. false;
   definitions = box_types;
 }
 
@@ -129,6 +130,7 @@ both_apart shunned one other = record {
     finalizes = λ access of part number tasks ends left overrides. ap beside.calls (overrides_third of number overrides);
     initializes = λ access of part number starts begun overrides. absurd (cc starts);
     undoes = λ access of part number starts begun overrides. absurd (cc starts);
+    assigns_quietly = λ direction record_type of part tasks assigned left. absurd (cc assigned);
   };
 }
 

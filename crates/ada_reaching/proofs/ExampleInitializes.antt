@@ -100,6 +100,7 @@ beside = record {
   calls = λ procedure. (procedure == 0) || (procedure == 2);
   ends = λ access. false;
   starts = λ access. access == 3;
+  assigns = λ r. false;
   definitions = box_types;
 }
 
@@ -142,6 +143,7 @@ both_apart shunned one other = record {
     finalizes = λ access of part number tasks ends left overrides. absurd (cc ends);
     initializes = λ access of part number starts begun overrides. ap beside.calls (overrides_third of number overrides);
     undoes = λ access of part number starts begun overrides. absurd (finalizes_none of number overrides);
+    assigns_quietly = λ direction record_type of part tasks assigned left. absurd (cc assigned);
   };
 }
 
@@ -217,7 +219,7 @@ initialization_is_met = (
             upper = of_first ∷ of_fill ∷ [];
             masters = refl;
             control = (
-              (refl, record { access = 3; may = refl; created = refl; left = whole; begun = tt }),
+              (refl, inl (record { access = 3; may = refl; created = refl; left = whole; begun = tt })),
               refl,
               (
                 tt,

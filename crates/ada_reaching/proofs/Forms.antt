@@ -162,7 +162,7 @@ module _ (w : World) where
     right_goes (computes e) s sound shun root r h anew = stays w (at (frame.Computes e ∷ s.control) s) r (shun, anew, h) refl
 
   -- Where nothing is to be done for an object, no treatment of it comes first.
-  untreated :
+  pub untreated :
       (v : Value) (treatment : Treatment) (tasks : List Task) (s : State) → tasks ≡ [] → On w s
       → On w (at (treating v treatment tasks s.control) s)
   untreated v treatment [] s none avoiding = avoiding

@@ -106,10 +106,10 @@ module _ (w : World) where
         let behind = frame.Ends v ∷ frame.GivesBack v (Freeing s.next) (Some (pool_freed_to (home_of access s.masters))) ∷ clears ∷ s.control in
         let all : IsLeftOf w.apart.definitions WholeFirst cell.access (all_tasks tds cell.access WholeFirst) =
         subst (λ (ts : List TypeDefinition). IsLeftOf w.apart.definitions WholeFirst cell.access (all_tasks ts cell.access WholeFirst)) own whole in
-        let left = ending_left w v (Freeing s.next) (all_tasks tds cell.access WholeFirst) behind sight (cell.access, inl (may, all))
+        let left = ending_left w v (Freeing s.next) (all_tasks tds cell.access WholeFirst) behind refl sight (cell.access, inl (may, all))
         (sight, refl, (sight, anew_quiet (clears ∷ s.control) anew, h)) refl in
         stays w (freeing named tds access v cell clears s) (changed_run w parted v s.activations s.masters s.heap sight r) left.0
-        (ending_anew w v (Freeing s.next) (all_tasks tds cell.access WholeFirst) behind refl (anew_stands (clears ∷ s.control) anew))
+        (ending_anew w v (Freeing s.next) (all_tasks tds cell.access WholeFirst) behind refl refl (anew_stands (clears ∷ s.control) anew))
 
     -- The bodies go on as what a variable names is freed.
     free_goes :

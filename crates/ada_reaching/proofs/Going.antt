@@ -5,12 +5,13 @@ use Rattle.std.specs.List.{list_all, slice_get, slice_set}
 use Rattle.std.proofs.lemmas.Bool.{and_from, and_parts}
 use Rattle.ada_program.specs.ProgramForm.{VariableForm, ProgramForm, seen_in}
 use Rattle.ada_program.specs.WellFormed.{type_fits}
+use Rattle.ada_meaning.specs.declared.event.Cause.TheVariants.{Assigning}
 use Rattle.ada_meaning.specs.declared.state.Id.{Id}
 use Rattle.ada_meaning.specs.declared.state.Mode.{Mode}
 use Rattle.ada_meaning.specs.declared.state.Mode.TheVariants.{Running, Raising, Exiting, Returning}
 use Rattle.ada_meaning.specs.declared.state.Value.{Value}
 use Rattle.ada_meaning.specs.declared.state.Value.TheVariants.{Null, Names, Scalar, Part}
-use Rattle.ada_meaning.specs.Frame.{Frame}
+use Rattle.ada_meaning.specs.Frame.{Frame, ends}
 use Rattle.ada_meaning.specs.Frame as frame
 use Rattle.ada_meaning.specs.Heap.{Cell}
 use Rattle.ada_meaning.specs.State.{Activation, Master}
@@ -96,7 +97,7 @@ may_jump Exiting k stands = stands
 may_jump Returning k stands = stands
 
 -- Where none is on its way, nothing is asked.
-none_jumps : (m : Mode) (k : List (Frame Value)) → m ≡ Running → MayJump m k
+pub none_jumps : (m : Mode) (k : List (Frame Value)) → m ≡ Running → MayJump m k
 none_jumps Running k runs = tt
 none_jumps (Raising e) k runs = absurd (cc)
 none_jumps Exiting k runs = absurd (cc)
@@ -179,6 +180,7 @@ module _ (w : World) where
   anew_seeks may (frame.Copies c t ∷ k) u anew = absurd (cc)
   anew_seeks may (frame.Receives c ∷ k) u anew = absurd (cc)
   anew_seeks may (frame.FreesIn access c ∷ k) u anew = absurd (cc)
+  anew_seeks may (frame.Treats v (ends (Assigning number)) tasks ∷ k) u anew = absurd (cc)
   anew_seeks may (f ∷ k) u anew = tt
 
   -- From the object that a value names what is left to do seeks nothing that is shunned.
@@ -197,7 +199,7 @@ module _ (w : World) where
   first_seeks heap k (Part o place) vs each = tt
 
   -- So it is in any mode.
-  any_mode : (heap : List Object) (m : Mode) (k : List (Frame Value)) (vs : List Value) → OperandsSeek heap Running k vs → OperandsSeek heap m k vs
+  pub any_mode : (heap : List Object) (m : Mode) (k : List (Frame Value)) (vs : List Value) → OperandsSeek heap Running k vs → OperandsSeek heap m k vs
   any_mode heap Running k vs h = h
   any_mode heap (Raising e) k vs h = tt
   any_mode heap Exiting k vs h = tt

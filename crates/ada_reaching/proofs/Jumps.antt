@@ -16,7 +16,7 @@ use Rattle.ada_meaning.specs.declared.state.Mode.TheVariants.{Running, Raising, 
 use Rattle.ada_meaning.specs.declared.state.Value.{Value}
 use Rattle.ada_meaning.specs.Frame.{Frame, begins, ends, is_loop, is_return, is_master, Landing, passes_on, goes_behind, goes_in, breaks_off, escapes, operation_landing, handler_landing, exception_landing, exit_landing, return_landing, landing}
 use Rattle.ada_meaning.specs.Frame as frame
-use Rattle.ada_meaning.specs.State.{Master}
+use Rattle.ada_meaning.specs.State.{Activation, Master}
 use Rattle.ada_meaning.specs.Step.{operands, broken_next, broken_off, landed, unwound, pass_next}
 use Rattle.ada_meaning.specs.Named.{Object, State, named, look, next}
 use Rattle.ada_untouched.specs.Untouched.{IsInSight}
@@ -28,7 +28,7 @@ use Rattle.ada_reaching.proofs.Going.{World, variables_in, Runs, LeftIn, Left, O
 use Rattle.ada_reaching.proofs.Masters.{declares_out, in_own, is_own, own_in}
 use Rattle.ada_reaching.proofs.Paths.{Sound}
 use Rattle.ada_reaching.proofs.Calls.{AreParts, left_goes, returned_goes}
-use Rattle.ada_reaching.proofs.Frames.{newest_seeks, frame_goes}
+use Rattle.ada_reaching.proofs.Frames.{RefersTwice, newest_seeks, frame_goes}
 use Rattle.ada_reaching.proofs.Rooted.{FrameIsRooted}
 use Rattle.ada_reaching.proofs.Treats.{undone_goes}
 
@@ -209,7 +209,10 @@ module _ (w : World) where
       escapes_go (landing m frame.Confines) m s (lands_so m frame.Confines escapes own (λ e. refl) refl refl)
   jump_goes m (frame.Declares x) s own is jump on parts h r =
       landed_goes (landing m (frame.Declares x)) m s (landing_shuns m (frame.Declares x) h.0) r
-      (declares_out w.apart w.lower x w.upper (λ (ns : List Master). LeftIn w ns s.control) h.2) h.1
+      (declares_out w.apart w.lower (frame.Declares x) w.upper (λ (ns : List Master). LeftIn w ns s.control) refl h.2) h.1
+  jump_goes m (frame.DeclaresRecord x t) s own is jump on parts h r =
+      landed_goes (landing m (frame.DeclaresRecord x t)) m s (landing_shuns m (frame.DeclaresRecord x t) h.0) r
+      (declares_out w.apart w.lower (frame.DeclaresRecord x t) w.upper (λ (ns : List Master). LeftIn w ns s.control) refl h.2) h.1
   jump_goes m f s own is jump on parts h r = landed_goes (landing m f) m s (landing_shuns m f h.0) r h.2 h.1
 
   -- The first frame is not the end of the outermost body.
@@ -222,22 +225,27 @@ module _ (w : World) where
   FirstRefers [] = Unit {0}
   FirstRefers (f ∷ k) = AreParts (references_at f)
 
+  -- What two operands refer to, where the first frame assigns a record with controlled parts, and no jump is on its way.
+  abbrev pub FirstAssigns : Mode → List (Frame Value) → List (Activation Value) → Type 0
+  FirstAssigns Running (f ∷ k) acts = RefersTwice f acts
+  FirstAssigns m k acts = Unit {0}
+
   -- The bodies go on by a step in any mode.
   pub step_goes :
       (tds : List TypeDefinition) → map type_form tds ≡ w.p.types → AreApart w.p tds w.shuns w.apart → (m : Mode) (k : List (Frame Value)) (s : State) → Sound w s
-      → GoesFurther k → FirstHousesIts k s.heap s.masters → FirstIsRooted w.p.types (variables_in w) m k → FirstRefers k → Runs w s → Left w k
+      → GoesFurther k → FirstHousesIts k s.heap s.masters → FirstIsRooted w.p.types (variables_in w) m k → FirstRefers k → FirstAssigns m k s.activations → Runs w s → Left w k
       → MayJump m k → OperandsSeek w s.heap m k (operands s) → AllGoOn (On w) (next tds w.p.bodies (record s { mode = m; control = k }))
   unfolding next
-  step_goes tds known are_apart Running [] s sound on houses root parts r h jump seeks = tt
-  step_goes tds known are_apart Running (f ∷ k) s sound on houses root parts r h jump seeks =
-      frame_goes w tds known are_apart f (record s { mode = Running; control = k }) sound on parts h houses root
+  step_goes tds known are_apart Running [] s sound on houses root parts pair r h jump seeks = tt
+  step_goes tds known are_apart Running (f ∷ k) s sound on houses root parts pair r h jump seeks =
+      frame_goes w tds known are_apart f (record s { mode = Running; control = k }) sound on parts pair h houses root
       (newest_seeks w s.heap (f ∷ k) (operands s) seeks) refl r
-  step_goes tds known are_apart (Raising e) [] s sound on houses root parts r h jump seeks = tt
-  step_goes tds known are_apart (Raising e) (f ∷ k) s sound on houses root parts r h jump seeks =
+  step_goes tds known are_apart (Raising e) [] s sound on houses root parts pair r h jump seeks = tt
+  step_goes tds known are_apart (Raising e) (f ∷ k) s sound on houses root parts pair r h jump seeks =
       jump_goes (Raising e) f (record s { mode = Raising e; control = k }) tt tt jump on parts h r
-  step_goes tds known are_apart Exiting [] s sound on houses root parts r h jump seeks = tt
-  step_goes tds known are_apart Exiting (f ∷ k) s sound on houses root parts r h jump seeks =
+  step_goes tds known are_apart Exiting [] s sound on houses root parts pair r h jump seeks = tt
+  step_goes tds known are_apart Exiting (f ∷ k) s sound on houses root parts pair r h jump seeks =
       jump_goes Exiting f (record s { mode = Exiting; control = k }) tt tt jump on parts h r
-  step_goes tds known are_apart Returning [] s sound on houses root parts r h jump seeks = tt
-  step_goes tds known are_apart Returning (f ∷ k) s sound on houses root parts r h jump seeks =
+  step_goes tds known are_apart Returning [] s sound on houses root parts pair r h jump seeks = tt
+  step_goes tds known are_apart Returning (f ∷ k) s sound on houses root parts pair r h jump seeks =
       jump_goes Returning f (record s { mode = Returning; control = k }) tt tt jump on parts h r

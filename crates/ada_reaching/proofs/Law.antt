@@ -17,24 +17,25 @@ use Rattle.ada_meaning.specs.declared.state.Value.TheVariants.{Null, Names, Scal
 use Rattle.ada_meaning.specs.Frame.{Frame}
 use Rattle.ada_meaning.specs.Frame as frame
 use Rattle.ada_meaning.specs.State.{Activation, Master}
-use Rattle.ada_meaning.specs.Step.{held, operating, procedure_of, older, places}
+use Rattle.ada_meaning.specs.Step.{held, first_or, operands_of, with_operands, operating, procedure_of, older, places}
 use Rattle.ada_meaning.specs.Named.{Object, State, named, next, object_at}
 use Rattle.ada_typed.specs.Holding.{Cells, HasKind, cells_of, seen_now}
 use Rattle.ada_typed.proofs.Bodies.{SeenFits, seen_fits, types_seen}
 use Rattle.ada_typed.proofs.Control as typed
 use Rattle.ada_typed.proofs.Operators.{and_left, and_right}
 use Rattle.ada_typed.proofs.Runs.{last_typed, typed_filled, typed_holds}
-use Rattle.ada_typed.proofs.Values.{OperandKind}
+use Rattle.ada_typed.proofs.Values.{OperandKind, lies_in, AreComputed, IsActive, IsOperand}
 use Rattle.ada_untouched.specs.Untouched.{Untouched}
 use Rattle.ada_reaching.specs.Reaching.{AreLow, IsElsewhere, IsGhost, IsReaching, OperandSeeks}
 use Rattle.ada_reaching.specs.Apart.{Apart}
 use Rattle.ada_reaching.specs.Law.{AreApart, IsWithin, GoesOn, AllGoOn, none_hidden, ShunnedObjectsAreUntouched}
 use Rattle.ada_reaching.specs.Forms.{body_shuns}
 use Rattle.ada_reaching.proofs.Begins.{elaborates_shuns}
-use Rattle.ada_reaching.proofs.Calls.{AreParts}
+use Rattle.ada_reaching.proofs.Calls.{AreParts, IsPart}
+use Rattle.ada_reaching.proofs.Frames.{RefersTwice}
 use Rattle.ada_reaching.proofs.Elsewhere.{given_places_elsewhere}
 use Rattle.ada_reaching.proofs.Going.{World, Runs, may_jump}
-use Rattle.ada_reaching.proofs.Jumps.{FirstIsRooted, FirstRefers, GoesFurther, step_goes}
+use Rattle.ada_reaching.proofs.Jumps.{FirstAssigns, FirstIsRooted, FirstRefers, GoesFurther, step_goes}
 use Rattle.ada_reaching.proofs.Paths.{IsSound}
 use Rattle.ada_reaching.proofs.Rooted.{FrameIsRooted, frame_rooted}
 use Rattle.ada_reaching.proofs.Touched.{first_open}
@@ -133,6 +134,64 @@ module _ (own : ProgramForm) (s : State) where
   first_rooted Exiting k typing runs is = tt
   first_rooted Returning k typing runs is = tt
 
+-- What lies in a record refers to it.
+lies_part : (types : List TypeForm) (cells : Cells) (t : ℕ) (v : Value) → IsOperand types cells (lies_in t) v → IsPart v
+lies_part types cells t Null h = absurd h
+lies_part types cells t (Names o) h = absurd h
+lies_part types cells t (Scalar n) h = absurd h
+lies_part types cells t (Part o place) h = tt
+
+-- So do the two newest operands, where their kinds say so.
+two_parts :
+    (types : List TypeForm) (cells : Cells) (variables : List VariableForm) (t : ℕ) (kinds ks : List OperandKind) (acts : List (Activation Value))
+    → kinds ≡ lies_in t ∷ lies_in t ∷ ks → IsActive types cells variables kinds acts → IsPart (first_or Null (operands_of (with_operands (older (operands_of acts)) acts))) × IsPart (first_or Null (operands_of acts))
+two_parts types cells variables t kinds ks acts is active =
+    by acts (subst (λ (all : List OperandKind). IsActive types cells variables all acts) is active)
+  where
+    of : (vs : List Value) → AreComputed types cells (lies_in t ∷ lies_in t ∷ ks) vs → IsPart (first_or Null (older vs)) × IsPart (first_or Null vs)
+    of [] h = absurd h
+    of (v ∷ []) h = absurd h.1
+    of (v ∷ u ∷ vs) h = (lies_part types cells t u h.1.0, lies_part types cells t v h.0)
+
+    by :
+        (acts : List (Activation Value)) → IsActive types cells variables (lies_in t ∷ lies_in t ∷ ks) acts
+        → IsPart (first_or Null (operands_of (with_operands (older (operands_of acts)) acts))) × IsPart (first_or Null (operands_of acts))
+    by [] h = absurd h
+    by (a ∷ suspended) h = of a.operands h.1
+
+-- So it is where a record is assigned to another one, in a state whose values are of their kinds.
+module _ (own : ProgramForm) (s : State) where
+  refers_twice :
+      (f : Frame Value) (k : List (Frame Value)) (kinds : List OperandKind) → typed.Fits own (cells_of s.heap) kinds (f ∷ k)
+      → IsActive own.types (cells_of s.heap) own.variables kinds s.activations → RefersTwice f s.activations
+  refers_twice (frame.Assigns t) k kinds fits active = two_parts own.types (cells_of s.heap) own.variables t kinds fits.0 s.activations fits.2 active
+  refers_twice f k kinds fits active = tt
+
+  operation_twice : (f : Frame Value) → typed.is_operation f ≡ true → RefersTwice f s.activations
+  operation_twice (frame.Awaits v by done of part tasks) ends = tt
+  operation_twice frame.Confines ends = tt
+  operation_twice f ends = absurd (cc)
+
+  running_twice : (f : Frame Value) (k : List (Frame Value)) → typed.TypedIn own s → s.mode ≡ Running → s.control ≡ f ∷ k → RefersTwice f s.activations
+  running_twice f k (typed.running kinds ready fits) runs is =
+      refers_twice f k kinds (subst (λ (j : List (Frame Value)). typed.Fits own (cells_of s.heap) kinds j) is fits) ready.active
+  running_twice f k (typed.on_jump mode jumps goes) runs is =
+      let nowhere : typed.Goes own (cells_of s.heap) Running s.control =
+      subst (λ (m : Mode). typed.Goes own (cells_of s.heap) m s.control) (sym jumps.jumps ∙ runs) goes in
+      absurd nowhere
+  running_twice f k (typed.operated kinds ready ended) runs is =
+      operation_twice f (ap begins_operation (sym is) ∙ operation_first own (cells_of s.heap) kinds s.control ended)
+  running_twice f k (typed.out_of_operation e kinds jumps ended) runs is =
+      operation_twice f (ap begins_operation (sym is) ∙ operation_first own (cells_of s.heap) kinds s.control ended)
+
+  first_assigns :
+      (w : World) (m : Mode) (k : List (Frame Value)) → typed.TypedIn own s → s.mode ≡ m → s.control ≡ k → FirstAssigns w m k s.activations
+  first_assigns w Running [] typing runs is = tt
+  first_assigns w Running (f ∷ k) typing runs is = running_twice f k typing runs is
+  first_assigns w (Raising e) k typing runs is = tt
+  first_assigns w Exiting k typing runs is = tt
+  first_assigns w Returning k typing runs is = tt
+
 -- Without operands nothing is sought.
 none_sought :
     (types : List TypeForm) (shuns : ℕ → Bool) (apart : Apart) (ghosts : Id → Bool) (heap : List Object) (m : Mode) (k : List (Frame Value))
@@ -227,7 +286,8 @@ stays_reaching program well shuns apart are_apart ghosts unnamed behind lower s 
     } in (
       first_open w s sound runs s.mode s.control reaching.control root reaching.seeks,
       step_goes w program.types.items refl are_apart s.mode s.control s sound (further w s.control within.on) within.houses root
-          (first_refers p (cells_of s.heap) w procedure s.control (older s.activations) typing.waiting) runs reaching.control reaching.jumps
+          (first_refers p (cells_of s.heap) w procedure s.control (older s.activations) typing.waiting)
+          (first_assigns own s w s.mode s.control inside refl refl) runs reaching.control reaching.jumps
           reaching.seeks,
     )
 

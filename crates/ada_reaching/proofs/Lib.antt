@@ -50,5 +50,9 @@ pub mod ExampleCopies
 pub mod ExampleFinalizes
 -- where one that is allocated is initialized
 pub mod ExampleInitializes
--- and where one that is declared is finalized
+-- where one that is declared is finalized
 pub mod ExampleDeclares
+-- and where one is declared as a copy
+pub mod ExampleDeclaresCopy
+-- for records of inert types nothing is called
+pub mod Inert

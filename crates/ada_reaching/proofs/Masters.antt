@@ -25,6 +25,12 @@ is_own frame.Closes = true
 is_own (frame.Leaves mode) = true
 is_own f = false
 
+-- What comes next is declared in the innermost master.
+abbrev pub is_declaring : Frame Value → Bool
+is_declaring (frame.Declares x) = true
+is_declaring (frame.DeclaresRecord x t) = true
+is_declaring f = false
+
 -- What one owns behind its newest item is as all of it.
 pub older_owned : (apart : Apart) (lower : List Master) (is : List Item) → AreOwnedApart apart lower is → AreOwnedApart apart lower (older is)
 older_owned apart lower [] own = tt
@@ -60,17 +66,24 @@ module _ (apart : Apart) (lower : List Master) where
   own_in (frame.Leaves mode) (m ∷ ms) left is h = h
   own_in f ms left is h = absurd (cc)
 
-  -- A variable is declared in one.
+  -- A variable is declared in one, and so is a record object.
   pub declares_in :
-      (x : ℕ) (ms : List Master) (left more : List Master → Type 0) → InOwn apart lower ms left → more ms → InMasters apart lower (frame.Declares x) ms more
-  declares_in x [] left more own h = absurd own
-  declares_in x (m ∷ ms) left more own h = h
+      (f : Frame Value) (ms : List Master) (left more : List Master → Type 0) → is_declaring f ≡ true → InOwn apart lower ms left → more ms
+      → InMasters apart lower f ms more
+  declares_in (frame.Declares x) [] left more is own h = absurd own
+  declares_in (frame.Declares x) (m ∷ ms) left more is own h = h
+  declares_in (frame.DeclaresRecord x t) [] left more is own h = absurd own
+  declares_in (frame.DeclaresRecord x t) (m ∷ ms) left more is own h = h
+  declares_in f ms left more is own h = absurd (cc)
 
   -- Behind its declaration it may own it.
   pub declares_out :
-      (x : ℕ) (ms : List Master) (left : List Master → Type 0) → InMasters apart lower (frame.Declares x) ms left → left ms
-  declares_out x [] left h = absurd h
-  declares_out x (m ∷ ms) left h = h
+      (f : Frame Value) (ms : List Master) (left : List Master → Type 0) → is_declaring f ≡ true → InMasters apart lower f ms left → left ms
+  declares_out (frame.Declares x) [] left is h = absurd h
+  declares_out (frame.Declares x) (m ∷ ms) left is h = h
+  declares_out (frame.DeclaresRecord x t) [] left is h = absurd h
+  declares_out (frame.DeclaresRecord x t) (m ∷ ms) left is h = h
+  declares_out f ms left is h = absurd (cc)
 
 module _ (p : ProgramForm) (shuns : ℕ → Bool) (apart : Apart) (ghosts unnamed : Id → Bool) (behind : List (Frame Value)) (lower : List Master) (item : Item)
     (own : IsOwnedApart apart item.owned × (height lower ≤ item.number)) (m : Master) (ms : List Master) where
@@ -92,6 +105,7 @@ module _ (p : ProgramForm) (shuns : ℕ → Bool) (apart : Apart) (ghosts unname
   grown_left procedure (frame.Closes ∷ k) suspended left = (left.0, left.1, ((own, left.2.0), left.2.1))
   grown_left procedure (frame.Leaves mode ∷ k) suspended left = (left.0, left.1, ((own, left.2.0), left.2.1))
   grown_left procedure (frame.Declares x ∷ k) suspended left = (left.0, left.1, grown_left procedure k suspended left.2)
+  grown_left procedure (frame.DeclaresRecord x t ∷ k) suspended left = (left.0, left.1, grown_left procedure k suspended left.2)
   grown_left procedure (f ∷ k) suspended left = (left.0, left.1, grown_left procedure k suspended left.2)
 
 module _ (w : World) (acts : List (Activation Value)) (masters : List Master) (heap : List Object) (r : IsRun w acts masters heap) where

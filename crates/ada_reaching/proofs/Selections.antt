@@ -13,16 +13,18 @@ use Rattle.ada_program.proofs.Shapes.{same_number}
 use Rattle.ada_program.specs.Controlled.{number_in, number_reached, shapes_of}
 use Rattle.ada_program.specs.Form.{PathForm}
 use Rattle.ada_program.specs.ProgramForm.{TypeForm, record_of, access_to, object_of, VariableForm, type_form}
-use Rattle.ada_program.specs.WellFormed.{value_access, access_of, component_kind, held_kind, kind_among, reached_components, selected_kind, selectors_kind, root_kind, path_kind, variable_kind, finalization_of, named_in, components_in, components_reached, kind_fits, parent_first, says_parts, is_numbered_alone, type_fits}
+use Rattle.ada_program.specs.WellFormed.{value_access, access_of, component_kind, held_kind, kind_among, reached_components, selected_kind, selectors_kind, root_kind, path_kind, variable_kind, finalization_of, named_in, object_named, components_in, components_reached, kind_fits, parent_first, says_parts, is_numbered_alone, type_fits}
 use Rattle.ada_parts.specs.declared.tasks.Direction.{Direction}
+use Rattle.ada_meaning.specs.declared.event.Cause.TheVariants.{Assigning}
 use Rattle.ada_meaning.specs.declared.state.Id.{Id}
 use Rattle.ada_meaning.specs.declared.state.Value.{Value}
 use Rattle.ada_meaning.specs.declared.state.Value.TheVariants.{Names}
-use Rattle.ada_meaning.specs.Frame.{Frame}
+use Rattle.ada_meaning.specs.Frame.{Frame, ends}
 use Rattle.ada_meaning.specs.Frame as frame
 use Rattle.ada_meaning.specs.Step.{has_parts, all_tasks, tasks_for, before_last, last_of}
 use Rattle.ada_meaning.specs.Named.{Object, object_at}
 use Rattle.ada_quiet.specs.Bare.{has_bare_objects, is_bare_access}
+use Rattle.ada_quiet.specs.Idle.{has_parts as record_has_parts, holds_parts}
 use Rattle.ada_deeds.proofs.Naming.{all_at}
 use Rattle.ada_typed.specs.Holding.{Cells, HasKind, HaveKinds, cells_of}
 use Rattle.ada_typed.proofs.Evaluations.{cell_at, own_access}
@@ -143,6 +145,7 @@ module _ (types : List TypeForm) (shuns : ℕ → Bool) where
     seeks_weaker may more access (frame.Copies c t ∷ k) weaker h = weaker h
     seeks_weaker may more access (frame.Receives c ∷ k) weaker h = weaker h
     seeks_weaker may more access (frame.FreesIn t c ∷ k) weaker h = (weaker h.0, h.1, h.2)
+    seeks_weaker may more access (frame.Treats v (ends (Assigning number)) tasks ∷ k) weaker h = weaker h
     seeks_weaker may more access (f ∷ k) weaker h = tt
 
 -- An access value that may be followed is of a type that is not shunned.
@@ -221,6 +224,19 @@ pub bare_tasks :
     → all_tasks tds access direction ≡ []
 bare_tasks tds types access direction shown is =
     let number : number_reached tds access ≡ None = sym (known_number tds types access shown) ∙ bare_number types (slice_get types access) is in
+    ap (tasks_for (shapes_of tds) direction) number
+
+-- Nor has a record type without controlled parts a number among those, if it is one.
+none_shown : (types : List TypeForm) (record_type : Option ℕ) → not (record_has_parts types record_type) ≡ true → shown_number types record_type ≡ None
+none_shown types None none = refl
+none_shown types (Some r) none = none_numbered (finalization_of types r) none
+
+-- So nothing is to be done for an object of which that is known (3.3.1).
+pub bare_object :
+    (tds : List TypeDefinition) (types : List TypeForm) (t : ℕ) (direction : Direction) → map type_form tds ≡ types → not (holds_parts types t) ≡ true
+    → all_tasks tds t direction ≡ []
+bare_object tds types t direction shown is =
+    let number : number_reached tds t ≡ None = sym (known_number tds types t shown) ∙ none_shown types (object_named types (Some t)) is in
     ap (tasks_for (shapes_of tds) direction) number
 
 -- A record has no controlled parts whose type has none.

@@ -1,34 +1,38 @@
 -- Statements of a body that shuns some access types.
 
-use Rattle.std.proofs.Common.{◌≡◌, ℕ, Bool, true, false, ◌&&◌, List, [], ◌∷◌, map, Option, Some, None, refl, sym, ap, ◌∙◌, subst}
-use Rattle.std.specs.Prelude.{ℤ, pos, ◌+ℤ◌, int_le, if◌then◌else◌}
+use Rattle.std.proofs.Common.{◌≡◌, ℕ, Bool, true, false, ◌&&◌, List, [], ◌∷◌, map, Option, Some, None, refl, sym, ap, ◌∙◌, subst, ◌⊎◌, inl, inr}
+use Rattle.std.specs.Prelude.{is_some, ℤ, pos, ◌+ℤ◌, int_le, if◌then◌else◌, not}
 use Rattle.std.specs.List.{list_all, slice_get, slice_set}
-use Rattle.std.proofs.lemmas.Bool.{and_from, and_parts}
+use Rattle.std.proofs.lemmas.Bool.{and_from, and_parts, or_cases, or_left, or_right}
 use Rattle.ada_program.specs.declared.program.TypeDefinition.{TypeDefinition}
 use Rattle.ada_program.specs.Form.{ExpressionForm, StmtForm, skips, assigns, assigns_record, frees, gets, writes, writes_text, chooses, repeats, counts, exits, calls, returns, raises, encloses, StmtsForm, no_stmts, a_stmt, BranchesForm, otherwise, a_branch, HandlersForm, DeclarationForm, creates_pool, collects, declares, declares_record}
-use Rattle.ada_program.specs.ProgramForm.{type_form}
+use Rattle.ada_program.specs.ProgramForm.{TypeForm, type_form}
 use Rattle.ada_program.specs.Typed.{reached_of, words_of}
+use Rattle.ada_program.specs.WellFormed.{finalization_of}
 use Rattle.ada_parts.specs.declared.tasks.Direction.TheVariants.{PartsFirst}
-use Rattle.ada_meaning.specs.declared.event.Birth.TheVariants.{Creation}
+use Rattle.ada_meaning.specs.declared.event.Birth.TheVariants.{Copy, Creation}
 use Rattle.ada_meaning.specs.declared.state.Mode.TheVariants.{Raising, Exiting, Returning}
 use Rattle.ada_meaning.specs.declared.state.Value.{Value}
+use Rattle.ada_meaning.specs.Frame.{begins}
 use Rattle.ada_meaning.specs.Frame as frame
 use Rattle.ada_meaning.specs.State.{Item, Master, height, record_object}
-use Rattle.ada_meaning.specs.Step.{moves, all_tasks, has_parts, at, entered, initial_values, made, places, put, record_cell, with_places, branches_next, decided_next, turn_next, repeats_next, turned_next, count_turn_next, ranges_next, exit_next, exited_next, stmt_next, stmts_next, line_next, declarations_next}
+use Rattle.ada_meaning.specs.Step.{moves, all_tasks, has_parts, at, entered, initial_values, made, owned, places, put, record_cell, with_places, branches_next, decided_next, turn_next, repeats_next, turned_next, count_turn_next, ranges_next, exit_next, exited_next, stmt_next, stmts_next, line_next, declarations_next}
 use Rattle.ada_meaning.specs.Named.{State, named, an_integer, create, created}
 use Rattle.ada_meaning.specs.Event.{Quiet}
+use Rattle.ada_quiet.specs.Idle.{holds_parts}
 use Rattle.ada_reaching.specs.Apart.{IsLeftOf, whole}
 use Rattle.ada_reaching.specs.Reaching.{InMasters, begins_anew}
-use Rattle.ada_reaching.specs.Forms.{may_declare, may_follow, may_end, record_path_shuns, expression_shuns, condition_shuns, item_shuns, actual_shuns, declaration_shuns, declarations_shun, statement_shuns, statements_shun, branches_shun, handlers_shun}
+use Rattle.ada_reaching.specs.Forms.{may_assign, may_declare, may_own, may_follow, may_end, record_path_shuns, expression_shuns, condition_shuns, item_shuns, actual_shuns, declaration_shuns, declarations_shun, statement_shuns, statements_shun, branches_shun, handlers_shun}
 use Rattle.ada_reaching.specs.Law.{AreApart, AllGoOn}
 use Rattle.ada_reaching.proofs.Going.{World, variables_in, IsRun, Runs, LeftIn, Left, On, Goes, created_run, stays, jumps, put_runs}
-use Rattle.ada_reaching.proofs.Masters.{InOwn, declares_in, entered_run, height_run, own_in, owned_run}
+use Rattle.ada_reaching.proofs.Masters.{InOwn, declares_in, entered_run, grown_left, height_run, own_in, owned_run}
 use Rattle.ada_reaching.proofs.Paths.{Sound, new_elsewhere, new_in_sight}
 use Rattle.ada_reaching.proofs.Assigns.{assign_goes, record_assign_goes, gets_goes}
 use Rattle.ada_reaching.proofs.Calls.{call_goes}
+use Rattle.ada_reaching.proofs.Forms.{untreated}
 use Rattle.ada_reaching.proofs.Frees.{frees_go}
 use Rattle.ada_reaching.proofs.Rooted.{StatementIsRooted, StatementsAreRooted}
-use Rattle.ada_reaching.proofs.Selections.{bare_record}
+use Rattle.ada_reaching.proofs.Selections.{bare_object, bare_record}
 use Rattle.ada_reaching.proofs.Treats.{starting_left}
 
 module _ (w : World) where
@@ -171,6 +175,13 @@ module _ (w : World) where
   line_goes (Some i) s r h anew = stays w s r h anew
 
   module _ (tds : List TypeDefinition) (known : map type_form tds ≡ w.p.types) (are_apart : AreApart w.p tds w.shuns w.apart) where
+    -- A record that may be assigned to as a whole has no controlled parts, or is of a type of which this may be.
+    assignable : (t : ℕ) → may_assign w.p.types w.apart t ≡ true → (has_parts tds t ≡ false) ⊎ (w.apart.assigns t ≡ true)
+    assignable t may = elim (or_cases (not (is_some (finalization_of w.p.types t))) (w.apart.assigns t) may) [
+      | inl bare ↦ inl (bare_record tds w.p.types t known bare)
+      | inr assigned ↦ inr assigned
+    ]
+
     -- The bodies go on as a statement begins.
     stmt_goes :
         (f : StmtForm) (s : State) → Sound w s → statement_shuns w.p.types w.shuns w.apart (variables_in w) f ≡ true
@@ -184,7 +195,7 @@ module _ (w : World) where
         let two = and_parts (record_path_shuns w.p.types w.shuns w.apart (variables_in w) target)
         (list_all (item_shuns w.p.types w.shuns w.apart (variables_in w)) items) three.0 in
         let one = and_parts _ _ two.0 in
-        record_assign_goes w (has_parts tds target.record_type) target root.0 items s (bare_record tds w.p.types target.record_type known three.1) sound root.1 one.0
+        record_assign_goes w (has_parts tds target.record_type) target root.0 items s (assignable target.record_type three.1) sound two.0 root.1 one.0
         (ap (may_follow w.shuns) (sym root.2) ∙ one.1) two.1 r h anew
     stmt_goes (frees access path) s sound shun root r h anew =
         let two = and_parts _ _ shun in
@@ -227,7 +238,17 @@ module _ (w : World) where
         let two = and_parts (statement_shuns w.p.types w.shuns w.apart (variables_in w) f) (statements_shun w.p.types w.shuns w.apart (variables_in w) fs) all in
         stmt_goes f (at (frame.Does fs ∷ s.control) s) sound two.0 root r (two.1, anew, h) refl
 
-  module _ (tds : List TypeDefinition) (own : w.apart.definitions ≡ tds) where
+  module _ (tds : List TypeDefinition) (known : map type_form tds ≡ w.p.types) (own : w.apart.definitions ≡ tds) where
+    -- A record object that may be declared by default may be owned,
+    default_owned : (t : ℕ) → may_declare w.apart t ≡ true → may_own w.apart t ≡ true
+    default_owned t may = or_left (may_declare w.apart t) (not (holds_parts (map type_form w.apart.definitions) t)) may
+
+    -- and so may one without controlled parts (7.6).
+    bare_owned : (t : ℕ) → not (holds_parts w.p.types t) ≡ true → may_own w.apart t ≡ true
+    bare_owned t bare =
+        or_right (may_declare w.apart t) (not (holds_parts (map type_form w.apart.definitions) t))
+        (subst (λ (types : List TypeForm). not (holds_parts types t) ≡ true) (sym (ap (λ (ts : List TypeDefinition). map type_form ts) own ∙ known)) bare)
+
     -- The bodies go on as a record object is there, which their innermost master owns, and is initialized next (3.3.1, 7.6).
     made_goes :
         (x t : ℕ) (values : List Value) (ds : List DeclarationForm) (fs : StmtsForm) (hs : HandlersForm) (s : State) (upper : List Master) → w.upper ≡ upper
@@ -248,12 +269,34 @@ module _ (w : World) where
         put_runs w x v (record s { heap = after }) (new_elsewhere w s.heap r.same words) (created_run w words cell s.activations s.masters s.heap r) in
         let runs = owned_run w (with_places (slice_set (places s) x v) s.activations) s.masters after placed m ms is item in
         let behind : Left inner (frame.Elaborates ds fs hs ∷ s.control) =
-        (shun, anew, (((may, height_run w s.activations s.masters s.heap r), left.0), left.1)) in
+        (shun, anew, (((default_owned t may, height_run w s.activations s.masters s.heap r), left.0), left.1)) in
         let all : IsLeftOf w.apart.definitions PartsFirst t (all_tasks tds t PartsFirst) =
         subst (λ (ts : List TypeDefinition). IsLeftOf w.apart.definitions PartsFirst t (all_tasks ts t PartsFirst)) own whole in
         let starts = starting_left inner v Creation [] (all_tasks tds t PartsFirst) (frame.Elaborates ds fs hs ∷ s.control) sight
         (record { access = t; may = two.0; created = refl; left = all; begun = tt }) behind refl in
         stays inner (made named tds x t Creation values (at (frame.Elaborates ds fs hs ∷ s.control) s)) runs starts.0 starts.1
+
+    -- So they do as one without controlled parts is there, which gets what its items were: nothing is to be done for it.
+    pub record_goes_on :
+        (x t : ℕ) (values : List Value) (s : State) (upper : List Master) → w.upper ≡ upper → not (holds_parts w.p.types t) ≡ true
+        → InMasters w.apart w.lower (frame.DeclaresRecord x t) upper (λ (ns : List Master). LeftIn w ns s.control) → Runs w s
+        → begins_anew s.control ≡ true → On w (made named tds x t Copy values s)
+    record_goes_on x t values s [] is bare left r anew = absurd left
+    record_goes_on x t values s (m ∷ ms) is bare left r anew =
+        let item : Item = record { number = height s.masters; owned = record_object t } in
+        let inner : World = record w { upper = record m { items = item ∷ m.items } ∷ ms } in
+        let words = words_of tds t in
+        let v = created s.heap words in
+        let cell = record_cell named tds t (height s.masters) values in
+        let after = create s.heap words cell in
+        let placed : IsRun w (with_places (slice_set (places s) x v) s.activations) s.masters after =
+        put_runs w x v (record s { heap = after }) (new_elsewhere w s.heap r.same words) (created_run w words cell s.activations s.masters s.heap r) in
+        let runs = owned_run w (with_places (slice_set (places s) x v) s.activations) s.masters after placed m ms is item in
+        let behind : Left inner s.control =
+        grown_left w.p w.shuns w.apart w.ghosts w.unnamed w.behind w.lower item (bare_owned t bare, height_run w s.activations s.masters s.heap r) m ms w.procedure
+        s.control w.suspended left in
+        untreated inner v (begins Copy []) (all_tasks tds t PartsFirst) (owned (record_object t) (put x v (record s { heap = after })))
+        (bare_object tds w.p.types t PartsFirst known bare) (stays inner (owned (record_object t) (put x v (record s { heap = after }))) runs behind anew)
 
     -- The bodies go on as a declaration is elaborated, or the statements behind the last one come.
     pub declarations_go :
@@ -273,10 +316,18 @@ module _ (w : World) where
         let more : InMasters w.apart w.lower (frame.Elaborates ds fs hs) w.upper (λ (ns : List Master). LeftIn w ns s.control) =
         own_in w.apart w.lower (frame.Elaborates ds fs hs) w.upper (λ (ns : List Master). LeftIn w ns s.control) refl left in
         let declared =
-        declares_in w.apart w.lower x w.upper (λ (ns : List Master). LeftIn w ns s.control)
-        (λ (ns : List Master). LeftIn w ns (frame.Elaborates ds fs hs ∷ s.control)) left (three.1, anew, more) in
+        declares_in w.apart w.lower (frame.Declares x) w.upper (λ (ns : List Master). LeftIn w ns s.control)
+        (λ (ns : List Master). LeftIn w ns (frame.Elaborates ds fs hs ∷ s.control)) refl left (three.1, anew, more) in
         stays w (at (frame.Evaluates right ∷ frame.Declares x ∷ frame.Elaborates ds fs hs ∷ s.control) s) r (three.0, refl, (tt, refl, declared)) refl
     declarations_go (declares_record x t None ∷ ds) fs hs s shun r left anew =
         let three = elaboration_parts (declares_record x t None) ds fs hs shun in
         made_goes x t (initial_values named (reached_of tds t)) ds fs hs s w.upper refl three.0 three.1 left r anew
-    declarations_go (declares_record x t (Some items) ∷ ds) fs hs s shun r left anew = absurd (cc)
+    declarations_go (declares_record x t (Some items) ∷ ds) fs hs s shun r left anew =
+        let three = elaboration_parts (declares_record x t (Some items)) ds fs hs shun in
+        let two = and_parts (not (holds_parts w.p.types t)) (list_all (item_shuns w.p.types w.shuns w.apart (variables_in w)) items) three.0 in
+        let more : InMasters w.apart w.lower (frame.Elaborates ds fs hs) w.upper (λ (ns : List Master). LeftIn w ns s.control) =
+        own_in w.apart w.lower (frame.Elaborates ds fs hs) w.upper (λ (ns : List Master). LeftIn w ns s.control) refl left in
+        let declared =
+        declares_in w.apart w.lower (frame.DeclaresRecord x t) w.upper (λ (ns : List Master). LeftIn w ns s.control)
+        (λ (ns : List Master). LeftIn w ns (frame.Elaborates ds fs hs ∷ s.control)) refl left (three.1, anew, more) in
+        stays w (at (frame.Fills items ∷ frame.DeclaresRecord x t ∷ frame.Elaborates ds fs hs ∷ s.control) s) r (two.1, refl, (two.0, refl, declared)) refl

@@ -1,20 +1,25 @@
 -- What is finalized of what a body frees or has declared that shuns some access types (7.6.1, 13.11.2), and initialized of what it allocates or declares (7.6,
--- 4.8, 3.3.1): the operations of such objects have bodies that shun them, too.
+-- 4.8, 3.3.1): the operations of such objects have bodies that shun them, too. And where such a body assigns to a record with controlled parts as a whole (5.2),
+-- nothing is called.
 
-use Rattle.std.proofs.Common.{◌≡◌, ℕ, Bool, true, false, if◌then◌else◌, List, [], ◌∷◌, length, map, Option, Some, None, refl, subst, inl, inr}
+use Rattle.std.proofs.Common.{◌≡◌, ℕ, Bool, true, false, not, if◌then◌else◌, List, [], ◌∷◌, length, map, Option, Some, None, refl, ap, subst, inl, inr}
 use Rattle.std.specs.Prelude.{◌==◌}
 use Rattle.std.specs.List.{slice_get}
 use Rattle.ada_program.specs.declared.program.Exception.{Exception}
 use Rattle.ada_program.specs.declared.program.TypeDefinition.{TypeDefinition}
+use Rattle.ada_program.specs.declared.program.Operations.{Operations}
+use Rattle.ada_program.specs.Typed.{width_of}
 use Rattle.ada_program.specs.Controlled.{operations_of, procedure_number, shapes_of}
 use Rattle.ada_program.specs.ProgramForm.{BodyForm}
 use Rattle.ada_parts.specs.declared.tasks.Component.{Component}
+use Rattle.ada_parts.specs.declared.tasks.Direction.{Direction}
 use Rattle.ada_parts.specs.declared.tasks.Direction.TheVariants.{PartsFirst, WholeFirst}
 use Rattle.ada_parts.specs.Part as parts
 use Rattle.ada_parts.specs.Task.{Task, performs, treats, next as task_next}
 use Rattle.ada_meaning.specs.declared.event.Birth.{Birth}
+use Rattle.ada_meaning.specs.declared.event.Birth.TheVariants.{Creation, Copy, Adjustment}
 use Rattle.ada_meaning.specs.declared.event.Cause.{Cause}
-use Rattle.ada_meaning.specs.declared.event.Cause.TheVariants.{Undoing}
+use Rattle.ada_meaning.specs.declared.event.Cause.TheVariants.{Leaving, Freeing, Assigning, Undoing}
 use Rattle.ada_meaning.specs.declared.event.Halt.TheVariants.{Erroneous, Stuck}
 use Rattle.ada_meaning.specs.declared.event.Why.TheVariants.{FinalizesTwice}
 use Rattle.ada_meaning.specs.declared.state.Id.{Id}
@@ -26,16 +31,17 @@ use Rattle.ada_meaning.specs.Event.{Event, Finalized, Quiet}
 use Rattle.ada_meaning.specs.Frame.{Frame, Treatment, begins, ends}
 use Rattle.ada_meaning.specs.Frame as frame
 use Rattle.ada_meaning.specs.Heap.{Cell, Found, PartState, on_null, on_gone, on_other, finds}
-use Rattle.ada_meaning.specs.State.{counted}
-use Rattle.ada_meaning.specs.Step.{halts, picks, at, treating, treated_on, picked_task, direction_of, beginning, with_operands, operation_next, part_reference, born_next, awaited_next, begun_next, undone, undo_next, ended_next, finalized_next, performed_next, treats_next}
-use Rattle.ada_meaning.specs.Named.{Object, State, named, look, refer, treated, born_part, finalized_part, bear, finalize, parted}
+use Rattle.ada_meaning.specs.State.{Activation, counted}
+use Rattle.ada_meaning.specs.Step.{halts, moves, picks, at, computed, first_or, newest, numbered, operands, operands_of, assigns_next, record_tasks, treating, treated_on, picked_task, direction_of, beginning, with_operands, operation_next, part_reference, born_next, awaited_next, begun_next, undone, undo_next, ended_next, finalized_next, performed_next, treats_next}
+use Rattle.ada_meaning.specs.Named.{Object, State, named, base, part_base, whole, look, refer, treated, born_part, finalized_part, bear, finalize, parted}
 use Rattle.ada_untouched.specs.Untouched.{IsInSight}
-use Rattle.ada_reaching.specs.Apart.{AreBegunIn, AreUndoneIn, IsBegunIn, IsLeftOf, picked, called}
+use Rattle.ada_reaching.specs.Apart.{AreBegunIn, AreUndoneIn, CallsNothing, IsBegunIn, IsLeftIn, IsLeftOf, picked, called, whole_in, picked_in, called_in}
 use Rattle.ada_reaching.specs.Forms.{body_shuns}
-use Rattle.ada_reaching.specs.Reaching.{AwaitsApart, EndsApart, IsElsewhere, IsInFront, StartsApart, TreatsApart, begins_anew, is_leaving, seeks_nothing}
+use Rattle.ada_reaching.specs.Reaching.{AssignsApart, AwaitsApart, EndsApart, Seeks, IsElsewhere, is_copying, IsInFront, StartsApart, TreatsApart, begins_anew, is_leaving, seeks_nothing}
 use Rattle.ada_reaching.specs.Law.{AreApart, AllGoOn}
 use Rattle.ada_reaching.proofs.Begins.{beginning_goes}
-use Rattle.ada_reaching.proofs.Going.{World, Runs, Left, On, Goes, GoesRunning, anew_quiet, anew_stands, anew_from, changed_run, operands_run, stays, runs_on}
+use Rattle.ada_reaching.proofs.Going.{World, Runs, Left, On, Goes, GoesRunning, OperandsSeek, ValueSeeks, any_mode, anew_quiet, anew_stands, anew_from, changed_run, none_jumps, operands_run, reaches, stays, runs_on}
+use Rattle.ada_reaching.proofs.Paths.{in_sight}
 
 -- What refers to a part of an object that is found refers to no ghost, where the object is none.
 part_elsewhere :
@@ -46,7 +52,42 @@ part_elsewhere ghosts unnamed heap (Names o) place cell found sight = sight
 part_elsewhere ghosts unnamed heap (Scalar v) place cell found sight = tt
 part_elsewhere ghosts unnamed heap (Part o base) place cell found sight = absurd (cc)
 
+-- A record is assigned to.
+abbrev pub is_assigning : Cause → Bool
+is_assigning (Leaving master item) = false
+is_assigning (Freeing number) = false
+is_assigning (Assigning number) = true
+is_assigning (Undoing number) = false
+
+-- A record is finalized that is assigned to.
+abbrev pub is_assigned : Treatment → Bool
+is_assigned (begins by done) = false
+is_assigned (ends cause) = is_assigning cause
+
 module _ (w : World) where
+  -- What is finalized otherwise is apart,
+  ending_apart : (cause : Cause) (tasks : List Task) → is_assigning cause ≡ false → EndsApart w.apart tasks → TreatsApart w.apart (ends cause) tasks
+  ending_apart (Leaving master item) tasks other left = left
+  ending_apart (Freeing number) tasks other left = left
+  ending_apart (Assigning number) tasks other left = absurd (cc)
+  ending_apart (Undoing number) tasks other left = left
+
+  -- and the other way round.
+  apart_ending : (cause : Cause) (tasks : List Task) → is_assigning cause ≡ false → TreatsApart w.apart (ends cause) tasks → EndsApart w.apart tasks
+  apart_ending (Leaving master item) tasks other left = left
+  apart_ending (Freeing number) tasks other left = left
+  apart_ending (Assigning number) tasks other left = absurd (cc)
+  apart_ending (Undoing number) tasks other left = left
+
+  -- It may be in front of what seeks nothing.
+  ending_front :
+      (v : Value) (cause : Cause) (tasks : List Task) (k : List (Frame Value)) → is_assigning cause ≡ false → seeks_nothing k ≡ true
+      → IsInFront (frame.Treats v (ends cause) tasks) k
+  ending_front v (Leaving master item) tasks k other quiet = quiet
+  ending_front v (Freeing number) tasks k other quiet = quiet
+  ending_front v (Assigning number) tasks k other quiet = absurd (cc)
+  ending_front v (Undoing number) tasks k other quiet = quiet
+
   -- The bodies go on as that of an operation begins, if there is one, in front of what shuns the types (7.6).
   operation_goes :
       (procedure : ℕ) (found : Option BodyForm) (reference : Value) (k : List (Frame Value)) (e : Event Value) (s : State)
@@ -66,10 +107,14 @@ module _ (w : World) where
 
   -- Nothing is sought there.
   treating_quiet :
-      (v : Value) (treatment : Treatment) (tasks : List Task) (k : List (Frame Value)) → seeks_nothing k ≡ true
+      (v : Value) (treatment : Treatment) (tasks : List Task) (k : List (Frame Value)) → is_assigned treatment ≡ false → seeks_nothing k ≡ true
       → seeks_nothing (treating v treatment tasks k) ≡ true
-  treating_quiet v treatment [] k quiet = quiet
-  treating_quiet v treatment (task ∷ tasks) k quiet = refl
+  treating_quiet v treatment [] k other quiet = quiet
+  treating_quiet v (begins by done) (task ∷ tasks) k other quiet = refl
+  treating_quiet v (ends (Leaving master item)) (task ∷ tasks) k other quiet = refl
+  treating_quiet v (ends (Freeing number)) (task ∷ tasks) k other quiet = refl
+  treating_quiet v (ends (Assigning number)) (task ∷ tasks) k other quiet = absurd (cc)
+  treating_quiet v (ends (Undoing number)) (task ∷ tasks) k other quiet = refl
 
   -- A master is left there where one is left behind.
   treating_stands :
@@ -78,60 +123,81 @@ module _ (w : World) where
   treating_stands v treatment [] k stands = stands
   treating_stands v treatment (task ∷ tasks) k stands = stands
 
-  -- Nothing is sought behind a treatment.
+  -- Nothing is sought behind another treatment.
   front_quiet :
-      (v : Value) (treatment : Treatment) (tasks : List Task) (k : List (Frame Value)) → IsInFront (frame.Treats v treatment tasks) k → seeks_nothing k ≡ true
-  front_quiet v (begins by done) tasks k front = anew_quiet k front
-  front_quiet v (ends cause) tasks k front = front
+      (v : Value) (treatment : Treatment) (tasks : List Task) (k : List (Frame Value)) → is_assigned treatment ≡ false
+      → IsInFront (frame.Treats v treatment tasks) k → seeks_nothing k ≡ true
+  front_quiet v (begins by done) tasks k other front = anew_quiet k front
+  front_quiet v (ends (Leaving master item)) tasks k other front = front
+  front_quiet v (ends (Freeing number)) tasks k other front = front
+  front_quiet v (ends (Assigning number)) tasks k other front = absurd (cc)
+  front_quiet v (ends (Undoing number)) tasks k other front = front
 
   -- What a treatment is in front of may be behind it whatever is left of it.
   front_of :
       (v : Value) (treatment : Treatment) (tasks more : List Task) (k : List (Frame Value)) → IsInFront (frame.Treats v treatment tasks) k
       → IsInFront (frame.Treats v treatment more) k
   front_of v (begins by done) tasks more k front = front
-  front_of v (ends cause) tasks more k front = front
+  front_of v (ends (Leaving master item)) tasks more k front = front
+  front_of v (ends (Freeing number)) tasks more k front = front
+  front_of v (ends (Assigning number)) tasks more k front = front
+  front_of v (ends (Undoing number)) tasks more k front = front
 
-  -- An object is initialized so, where what is left behind begins anew.
-  pub starting_left :
-      (v : Value) (by : Birth) (done : List parts.Part) (tasks : List Task) (k : List (Frame Value)) → IsInSight w.ghosts v → StartsApart w.apart by done tasks
-      → Left w k → begins_anew k ≡ true → Left w (treating v (begins by done) tasks k) × (begins_anew (treating v (begins by done) tasks k) ≡ true)
-  starting_left v by done tasks k sight left h anew = (
+  -- An object is initialized so, or a record adjusted, where what is left behind begins anew.
+  pub begun_left :
+      (v : Value) (by : Birth) (done : List parts.Part) (tasks : List Task) (k : List (Frame Value)) → IsInSight w.ghosts v
+      → TreatsApart w.apart (begins by done) tasks → Left w k → begins_anew k ≡ true
+      → Left w (treating v (begins by done) tasks k) × (begins_anew (treating v (begins by done) tasks k) ≡ true)
+  begun_left v by done tasks k sight left h anew = (
     treating_left v (begins by done) tasks k sight left h anew,
-    anew_from (treating v (begins by done) tasks k) (treating_quiet v (begins by done) tasks k (anew_quiet k anew))
+    anew_from (treating v (begins by done) tasks k) (treating_quiet v (begins by done) tasks k refl (anew_quiet k anew))
         (treating_stands v (begins by done) tasks k (anew_stands k anew)),
   )
 
+  -- So it is with an object.
+  pub starting_left :
+      (v : Value) (by : Birth) (done : List parts.Part) (tasks : List Task) (k : List (Frame Value)) → IsInSight w.ghosts v → StartsApart w.apart by done tasks
+      → Left w k → begins_anew k ≡ true → Left w (treating v (begins by done) tasks k) × (begins_anew (treating v (begins by done) tasks k) ≡ true)
+  starting_left v by done tasks k sight left h anew = begun_left v by done tasks k sight (inl left) h anew
+
   -- One is finalized so, where nothing is sought behind.
   pub ending_left :
-      (v : Value) (cause : Cause) (tasks : List Task) (k : List (Frame Value)) → IsInSight w.ghosts v → EndsApart w.apart tasks → Left w k
-      → seeks_nothing k ≡ true → Left w (treating v (ends cause) tasks k) × (seeks_nothing (treating v (ends cause) tasks k) ≡ true)
-  ending_left v cause tasks k sight left h quiet =
-      (treating_left v (ends cause) tasks k sight left h quiet, treating_quiet v (ends cause) tasks k quiet)
+      (v : Value) (cause : Cause) (tasks : List Task) (k : List (Frame Value)) → is_assigning cause ≡ false → IsInSight w.ghosts v → EndsApart w.apart tasks
+      → Left w k → seeks_nothing k ≡ true → Left w (treating v (ends cause) tasks k) × (seeks_nothing (treating v (ends cause) tasks k) ≡ true)
+  ending_left v cause tasks k other sight left h quiet = (
+    treating_left v (ends cause) tasks k sight (ending_apart cause tasks other left) h (ending_front v cause tasks k other quiet),
+    treating_quiet v (ends cause) tasks k other quiet,
+  )
 
   -- What is left begins anew, where it does so behind.
   pub ending_anew :
-      (v : Value) (cause : Cause) (tasks : List Task) (k : List (Frame Value)) → seeks_nothing k ≡ true → is_leaving k ≡ false
+      (v : Value) (cause : Cause) (tasks : List Task) (k : List (Frame Value)) → is_assigning cause ≡ false → seeks_nothing k ≡ true → is_leaving k ≡ false
       → begins_anew (treating v (ends cause) tasks k) ≡ true
-  ending_anew v cause tasks k quiet stands =
-      anew_from (treating v (ends cause) tasks k) (treating_quiet v (ends cause) tasks k quiet) (treating_stands v (ends cause) tasks k stands)
+  ending_anew v cause tasks k other quiet stands =
+      anew_from (treating v (ends cause) tasks k) (treating_quiet v (ends cause) tasks k other quiet) (treating_stands v (ends cause) tasks k stands)
 
   -- The bodies go on as a part comes to have a value (7.6).
   born_goes :
       (v : Value) (by : Birth) (done : List parts.Part) (of part : ℕ) (tasks : List Task) (found : Option PartState) (s : State) → IsInSight w.ghosts v
-      → AwaitsApart w.apart by done of part tasks → Goes w s (born_next named v by done of part tasks found s)
+      → TreatsApart w.apart (begins by (record { of = of; number = part } ∷ done)) tasks → Goes w s (born_next named v by done of part tasks found s)
   born_goes v by done of part tasks None s sight left r h anew = tt
   born_goes v by done of part tasks (Some state) s sight left r h anew =
       let more = record { of = of; number = part } ∷ done in
-      let starts : StartsApart w.apart by more tasks = record {
-        access = left.starts.access;
-        may = left.starts.may;
-        created = left.starts.created;
-        left = left.starts.left;
-        begun = (left.begins, left.starts.begun);
-      } in
-      let behind = starting_left v by more tasks s.control sight starts h anew in
+      let behind = begun_left v by more tasks s.control sight left h anew in
       stays w (treated_on named v (begins by more) tasks (record s { born = counted s.born; heap = bear s.heap v part (counted s.born) }))
       (changed_run w (treated (born_part (counted s.born)) part) v s.activations s.masters s.heap sight r) behind.0 behind.1
+
+  -- What is left of an initialization once a part has begun.
+  begun_apart :
+      (by : Birth) (done : List parts.Part) (of part : ℕ) (tasks : List Task) → AwaitsApart w.apart by done of part tasks
+      → TreatsApart w.apart (begins by (record { of = of; number = part } ∷ done)) tasks
+  begun_apart by done of part tasks left = inl (record {
+    access = left.starts.access;
+    may = left.starts.may;
+    created = left.starts.created;
+    left = left.starts.left;
+    begun = (left.begins, left.starts.begun);
+  })
 
   -- So they do once the operation has ended that begins it.
   pub awaited_goes :
@@ -141,7 +207,7 @@ module _ (w : World) where
   awaited_goes v by done of part tasks on_gone s sight left r h anew = tt
   awaited_goes v by done of part tasks on_other s sight left r h anew = tt
   awaited_goes v by done of part tasks (finds cell) s sight left r h anew =
-      born_goes v by done of part tasks (slice_get cell.parts part) s sight left r h anew
+      born_goes v by done of part tasks (slice_get cell.parts part) s sight (begun_apart by done of part tasks left) r h anew
 
   -- The parts are left to be finalized that have begun (7.6.1).
   undone_left :
@@ -159,7 +225,7 @@ module _ (w : World) where
   undone_goes e v access done on_other s sight may begun r h anew = tt
   undone_goes e v access done (finds cell) s sight may begun r h anew =
       let behind = frame.Ends v ∷ frame.GivesBack v (Undoing s.next) cell.home.pool ∷ frame.Resumes (Raising e) ∷ s.control in
-      let left = ending_left v (Undoing s.next) (map (λ (p : parts.Part). performs p.of p.number) done) behind sight
+      let left = ending_left v (Undoing s.next) (map (λ (p : parts.Part). performs p.of p.number) done) behind refl sight
       (access, inr (may, undone_left access done begun)) (sight, refl, (sight, refl, (tt, anew, h))) refl in
       runs_on w (undone named e v done cell s) refl
       (changed_run w parted v (with_operands [] s.activations) s.masters s.heap sight (operands_run w [] s.activations s.masters s.heap tt r)) left.0 left.1
@@ -179,11 +245,25 @@ module _ (w : World) where
     )
     ends_picked components tasks i (access, inr (may, undone)) = absurd undone
 
+    -- Once a component has been picked, what is left of the treatment of a record that is assigned to is so.
+    assigned_picked :
+        (direction : Direction) (components : List Component) (tasks : List Task) (i : ℕ) → AssignsApart w.apart direction (treats components ∷ tasks)
+        → AssignsApart w.apart direction (picked_task (shapes_of tds) direction (treats components ∷ tasks) i)
+    assigned_picked direction components tasks i left = record {
+      record_type = left.record_type;
+      may = left.may;
+      left =
+          subst
+          (λ (ts : List TypeDefinition).
+          IsLeftIn w.apart.definitions direction left.record_type (picked_task (shapes_of ts) direction (treats components ∷ tasks) i))
+          own (picked_in i left.left);
+    }
+
     -- So is what is left of a treatment.
     treats_picked :
         (treatment : Treatment) (components : List Component) (tasks : List Task) (i : ℕ) → TreatsApart w.apart treatment (treats components ∷ tasks)
         → TreatsApart w.apart treatment (picked_task (shapes_of tds) (direction_of treatment) (treats components ∷ tasks) i)
-    treats_picked (begins by done) components tasks i left = record {
+    treats_picked (begins by done) components tasks i (inl left) = inl (record {
       access = left.access;
       may = left.may;
       created = left.created;
@@ -192,23 +272,27 @@ module _ (w : World) where
           (λ (ts : List TypeDefinition). IsLeftOf w.apart.definitions PartsFirst left.access (picked_task (shapes_of ts) PartsFirst (treats components ∷ tasks) i))
           own (picked i left.left);
       begun = left.begun;
-    }
-    treats_picked (ends cause) components tasks i left = ends_picked components tasks i left
+    })
+    treats_picked (begins by done) components tasks i (inr left) = inr (assigned_picked PartsFirst components tasks i left)
+    treats_picked (ends (Leaving master item)) components tasks i left = ends_picked components tasks i left
+    treats_picked (ends (Freeing number)) components tasks i left = ends_picked components tasks i left
+    treats_picked (ends (Assigning number)) components tasks i left = assigned_picked WholeFirst components tasks i left
+    treats_picked (ends (Undoing number)) components tasks i left = ends_picked components tasks i left
 
     -- The bodies go on as one of so many components is picked.
     picked_goes :
-        (none : Bool) (v : Value) (treatment : Treatment) (components : List Component) (tasks : List Task) (count : ℕ) (s : State) → IsInSight w.ghosts v
-        → TreatsApart w.apart treatment (treats components ∷ tasks) → s.mode ≡ Running → Runs w s → Left w s.control
+        (none : Bool) (v : Value) (treatment : Treatment) (components : List Component) (tasks : List Task) (count : ℕ) (s : State)
+        → is_assigned treatment ≡ false → IsInSight w.ghosts v → TreatsApart w.apart treatment (treats components ∷ tasks) → s.mode ≡ Running → Runs w s → Left w s.control
         → IsInFront (frame.Treats v treatment (treats components ∷ tasks)) s.control
         → AllGoOn (On w) (if none then halts Stuck
         else picks count (λ i. treated_on named v treatment (picked_task (shapes_of tds) (direction_of treatment) (treats components ∷ tasks) i) s))
-    picked_goes true v treatment components tasks count s sight left running r h front = tt
-    picked_goes false v treatment components tasks count s sight left running r h front = λ i below.
+    picked_goes true v treatment components tasks count s other sight left running r h front = tt
+    picked_goes false v treatment components tasks count s other sight left running r h front = λ i below.
         let more = picked_task (shapes_of tds) (direction_of treatment) (treats components ∷ tasks) i in
         runs_on w (treated_on named v treatment more s) running r
         (treating_left v treatment more s.control sight (treats_picked treatment components tasks i left) h
         (front_of v treatment (treats components ∷ tasks) more s.control front))
-        (treating_quiet v treatment more s.control (front_quiet v treatment (treats components ∷ tasks) s.control front))
+        (treating_quiet v treatment more s.control other (front_quiet v treatment (treats components ∷ tasks) s.control other front))
 
   -- Once a Finalize has been called, what is left is so.
   ends_called : (of part : ℕ) (tasks : List Task) → EndsApart w.apart (performs of part ∷ tasks) → EndsApart w.apart tasks
@@ -251,7 +335,7 @@ module _ (w : World) where
         → AwaitsApart w.apart by done of part tasks → Goes w s (begun_next named w.p.bodies v by done of part tasks operation found s)
     begun_goes v by done of part tasks operation None cell s there each sight left r h anew = tt
     begun_goes v by done of part tasks None (Some state) cell s there each sight left r h anew =
-        born_goes v by done of part tasks (Some state) s sight left r h anew
+        born_goes v by done of part tasks (Some state) s sight (begun_apart by done of part tasks left) r h anew
     begun_goes v by done of part tasks (Some procedure) (Some state) cell s there each sight left r h anew =
         operation_goes procedure (slice_get w.p.bodies procedure) (part_reference named v part state) (frame.Awaits v by done of part tasks ∷ s.control) Quiet s
         refl
@@ -283,37 +367,214 @@ module _ (w : World) where
     -- So they do, if there is that part of the object.
     finalized_goes :
         (v : Value) (cause : Cause) (of part : ℕ) (tasks : List Task) (operation : Option ℕ) (found : Option PartState) (cell : Cell Value) (s : State)
-        → look s.heap v ≡ finds cell → ((number : ℕ) → operation ≡ Some number → w.apart.calls number ≡ true) → IsInSight w.ghosts v
-        → EndsApart w.apart tasks → GoesRunning w s (finalized_next named w.p.bodies v cause of part tasks operation found s)
-    finalized_goes v cause of part tasks operation None cell s there each sight left running r h quiet = tt
-    finalized_goes v cause of part tasks operation (Some state) cell s there each sight left running r h quiet =
-        let behind = ending_left v cause tasks s.control sight left h quiet in
+        → is_assigning cause ≡ false → look s.heap v ≡ finds cell → ((number : ℕ) → operation ≡ Some number → w.apart.calls number ≡ true)
+        → IsInSight w.ghosts v → EndsApart w.apart tasks → GoesRunning w s (finalized_next named w.p.bodies v cause of part tasks operation found s)
+    finalized_goes v cause of part tasks operation None cell s other there each sight left running r h quiet = tt
+    finalized_goes v cause of part tasks operation (Some state) cell s other there each sight left running r h quiet =
+        let behind = ending_left v cause tasks s.control other sight left h quiet in
         valued_goes state.alive v part state (treating v (ends cause) tasks s.control) operation (Finalized v part state.turn of state.number cause) s each
         (part_elsewhere w.ghosts w.unnamed s.heap v (record { component = state.first; part = part }) cell there sight) sight running r behind.0 behind.1
 
+    -- Nothing is called where a record of a type begins that overrides no operation.
+    nothing_begins : (by : Birth) (operations : Operations) → CallsNothing operations → beginning by operations ≡ None
+    nothing_begins Creation operations nothing = nothing.no_initialize
+    nothing_begins Copy operations nothing = nothing.no_adjust
+    nothing_begins (Adjustment number) operations nothing = nothing.no_adjust
+
+    -- So it is with a part of a record that is assigned to.
+    assigned_calls :
+        (direction : Direction) (of part : ℕ) (tasks : List Task) → AssignsApart w.apart direction (performs of part ∷ tasks)
+        → CallsNothing (operations_of tds of)
+    assigned_calls direction of part tasks left =
+        are_apart.operations.assigns_quietly direction left.record_type of part tasks left.may
+        (subst (λ (ts : List TypeDefinition). IsLeftIn ts direction left.record_type (performs of part ∷ tasks)) are_apart.own left.left)
+
+    -- What is left behind it is so.
+    assigned_called :
+        (direction : Direction) (of part : ℕ) (tasks : List Task) → AssignsApart w.apart direction (performs of part ∷ tasks) → AssignsApart w.apart direction tasks
+    assigned_called direction of part tasks left = record { record_type = left.record_type; may = left.may; left = called_in left.left }
+
+    -- The bodies go on as a part of a record that is assigned to is adjusted: nothing is called.
+    unadjusted_goes :
+        (v : Value) (by : Birth) (done : List parts.Part) (of part : ℕ) (tasks : List Task) (operation : Option ℕ) (found : Option PartState) (s : State)
+        → operation ≡ None → IsInSight w.ghosts v → TreatsApart w.apart (begins by (record { of = of; number = part } ∷ done)) tasks
+        → Goes w s (begun_next named w.p.bodies v by done of part tasks operation found s)
+    unadjusted_goes v by done of part tasks operation None s none sight left r h anew = tt
+    unadjusted_goes v by done of part tasks None (Some state) s none sight left r h anew = born_goes v by done of part tasks (Some state) s sight left r h anew
+    unadjusted_goes v by done of part tasks (Some procedure) (Some state) s none sight left r h anew = absurd (cc)
+
     -- So they do as an operation is called, by what is found of the object.
     performed_goes :
-        (v : Value) (treatment : Treatment) (of part : ℕ) (tasks : List Task) (found : Found (Cell Value)) (s : State) → look s.heap v ≡ found
+        (v : Value) (treatment : Treatment) (of part : ℕ) (tasks : List Task) (found : Found (Cell Value)) (s : State) → is_assigned treatment ≡ false
+        → look s.heap v ≡ found
         → IsInSight w.ghosts v → TreatsApart w.apart treatment (performs of part ∷ tasks) → s.mode ≡ Running → Runs w s → Left w s.control
         → IsInFront (frame.Treats v treatment (performs of part ∷ tasks)) s.control
         → AllGoOn (On w) (performed_next named tds w.p.bodies v treatment of part tasks found s)
-    performed_goes v treatment of part tasks on_null s is sight left running r h front = tt
-    performed_goes v treatment of part tasks on_gone s is sight left running r h front = tt
-    performed_goes v treatment of part tasks on_other s is sight left running r h front = tt
-    performed_goes v (begins by done) of part tasks (finds cell) s is sight left running r h front =
+    performed_goes v treatment of part tasks on_null s other is sight left running r h front = tt
+    performed_goes v treatment of part tasks on_gone s other is sight left running r h front = tt
+    performed_goes v treatment of part tasks on_other s other is sight left running r h front = tt
+    performed_goes v (begins by done) of part tasks (finds cell) s other is sight (inl left) running r h front =
         begun_goes v by done of part tasks (beginning by (operations_of tds of)) (slice_get cell.parts part) cell s is
         (λ number called_so. initialize_apart by done of part number tasks left called_so) sight (starts_called by done of part tasks left) r h front
-    performed_goes v (ends cause) of part tasks (finds cell) s is sight left running r h front =
-        finalized_goes v cause of part tasks (procedure_number (operations_of tds of).finalize) (slice_get cell.parts part) cell s is
-        (λ number called_so. finalize_apart of part number tasks left called_so) sight (ends_called of part tasks left) running r h front
+    performed_goes v (begins by done) of part tasks (finds cell) s other is sight (inr left) running r h front =
+        unadjusted_goes v by done of part tasks (beginning by (operations_of tds of)) (slice_get cell.parts part) s
+        (nothing_begins by (operations_of tds of) (assigned_calls PartsFirst of part tasks left)) sight (inr (assigned_called PartsFirst of part tasks left)) r h front
+    performed_goes v (ends cause) of part tasks (finds cell) s other is sight left running r h front =
+        let ending = apart_ending cause (performs of part ∷ tasks) other left in
+        finalized_goes v cause of part tasks (procedure_number (operations_of tds of).finalize) (slice_get cell.parts part) cell s other is
+        (λ number called_so. finalize_apart of part number tasks ending called_so) sight (ends_called of part tasks ending) running r h
+        (front_quiet v (ends cause) (performs of part ∷ tasks) s.control other front)
 
-    -- The bodies go on as an object is treated: they initialize one that they may allocate or declare, or finalize one that they may free or have declared.
-    pub treats_goes :
-        (v : Value) (treatment : Treatment) (tasks : List Task) (s : State) → IsInSight w.ghosts v → TreatsApart w.apart treatment tasks
+    -- The bodies go on as an object is treated otherwise than a record is finalized that is assigned to.
+    other_goes :
+        (v : Value) (treatment : Treatment) (tasks : List Task) (s : State) → is_assigned treatment ≡ false → IsInSight w.ghosts v
+        → TreatsApart w.apart treatment tasks
         → s.mode ≡ Running → Runs w s → Left w s.control → IsInFront (frame.Treats v treatment tasks) s.control
         → AllGoOn (On w) (treats_next named tds w.p.bodies v treatment tasks (task_next tasks) s)
-    treats_goes v treatment [] s sight left running r h front = runs_on w s running r h (front_quiet v treatment [] s.control front)
-    treats_goes v treatment (treats components ∷ tasks) s sight left running r h front =
-        picked_goes tds are_apart.own (length components == 0) v treatment components tasks (length components) s sight left running r h front
-    treats_goes v treatment (performs of part ∷ tasks) s sight left running r h front =
-        performed_goes v treatment of part tasks (look s.heap v) s refl sight left running r h front
+    other_goes v treatment [] s other sight left running r h front = runs_on w s running r h (front_quiet v treatment [] s.control other front)
+    other_goes v treatment (treats components ∷ tasks) s other sight left running r h front =
+        picked_goes tds are_apart.own (length components == 0) v treatment components tasks (length components) s other sight left running r h front
+    other_goes v treatment (performs of part ∷ tasks) s other sight left running r h front =
+        performed_goes v treatment of part tasks (look s.heap v) s other refl sight left running r h front
+
+  -- A record is copied next: that is looked for.
+  copy_seeks : (may : Bool) (u : ℕ) (k : List (Frame Value)) → is_copying k ≡ true → may ≡ true → Seeks w.p.types w.shuns w.apart may u k
+  copy_seeks may u [] copies is_may = absurd (cc)
+  copy_seeks may u (frame.Copies c t ∷ k) copies is_may = is_may
+  copy_seeks may u (f ∷ k) copies is_may = absurd (cc)
+
+  -- So it is where that is finalized before to which it is assigned.
+  assigned_seeks :
+      (may : Bool) (u : ℕ) (v : Value) (number : ℕ) (tasks : List Task) (k : List (Frame Value)) → is_copying k ≡ true → may ≡ true
+      → Seeks w.p.types w.shuns w.apart may u (treating v (ends (Assigning number)) tasks k)
+  assigned_seeks may u v number [] k copies is_may = copy_seeks may u k copies is_may
+  assigned_seeks may u v number (task ∷ tasks) k copies is_may = is_may
+
+  -- From the newest operand what is sought is no ghost.
+  seen_seeks :
+      (heap : List Object) (k : List (Frame Value)) (vs : List Value) → IsInSight w.ghosts (first_or Null vs)
+      → ((may : Bool) (u : ℕ) → may ≡ true → Seeks w.p.types w.shuns w.apart may u k) → OperandsSeek w heap Running k vs
+  seen_seeks heap k [] sees each = tt
+  seen_seeks heap k (Null ∷ vs) sees each = tt
+  seen_seeks heap k (Names o ∷ vs) sees each = λ x at. each (not (w.ghosts o)) x.cell.access (ap not sees)
+  seen_seeks heap k (Scalar n ∷ vs) sees each = tt
+  seen_seeks heap k (Part o place ∷ vs) sees each = tt
+
+  -- The bodies go on as this is left of the finalization of a record that is assigned to, in front of the copy, which looks at no ghost.
+  pub assigned_on :
+      (v : Value) (number : ℕ) (tasks : List Task) (s : State) → s.mode ≡ Running → Runs w s → Left w s.control → is_copying s.control ≡ true
+      → IsInSight w.ghosts v → AssignsApart w.apart WholeFirst tasks → IsInSight w.ghosts (newest named s)
+      → On w (treated_on named v (ends (Assigning number)) tasks s)
+  assigned_on v number tasks s running r h copies sight left sees =
+      let k = treating v (ends (Assigning number)) tasks s.control in
+      reaches w (treated_on named v (ends (Assigning number)) tasks s) r (treating_left v (ends (Assigning number)) tasks s.control sight left h copies)
+      (none_jumps s.mode k running)
+      (any_mode w s.heap s.mode k (operands s)
+      (seen_seeks s.heap k (operands s) sees (λ may u is_may. assigned_seeks may u v number tasks s.control copies is_may)))
+
+  -- So they do as the value of a part of it is finalized, if it has one.
+  assigned_valued :
+      (alive : Bool) (v : Value) (number part : ℕ) (tasks : List Task) (e : Event Value) (s : State) → s.mode ≡ Running → Runs w s → Left w s.control
+      → is_copying s.control ≡ true → IsInSight w.ghosts v → AssignsApart w.apart WholeFirst tasks → IsInSight w.ghosts (newest named s)
+      → AllGoOn (On w) (if alive then moves e (treated_on named v (ends (Assigning number)) tasks (record s { heap = finalize s.heap v part }))
+      else halts (Erroneous FinalizesTwice))
+  assigned_valued false v number part tasks e s running r h copies sight left sees = tt
+  assigned_valued true v number part tasks e s running r h copies sight left sees =
+      assigned_on v number tasks (record s { heap = finalize s.heap v part }) running
+      (changed_run w (treated finalized_part part) v s.activations s.masters s.heap sight r) h copies sight left sees
+
+  -- So they do, if there is that part of the object, and nothing is called.
+  assigned_finalized :
+      (v : Value) (number of part : ℕ) (tasks : List Task) (operation : Option ℕ) (found : Option PartState) (s : State) → operation ≡ None
+      → s.mode ≡ Running → Runs w s → Left w s.control → is_copying s.control ≡ true → IsInSight w.ghosts v → AssignsApart w.apart WholeFirst tasks
+      → IsInSight w.ghosts (newest named s) → AllGoOn (On w) (finalized_next named w.p.bodies v (Assigning number) of part tasks operation found s)
+  assigned_finalized v number of part tasks operation None s none running r h copies sight left sees = tt
+  assigned_finalized v number of part tasks None (Some state) s none running r h copies sight left sees =
+      assigned_valued state.alive v number part tasks (Finalized v part state.turn of state.number (Assigning number)) s running r h copies sight left sees
+  assigned_finalized v number of part tasks (Some procedure) (Some state) s none running r h copies sight left sees = absurd (cc)
+
+  module _ (tds : List TypeDefinition) (are_apart : AreApart w.p tds w.shuns w.apart) where
+    -- So they do, by what is found of the object.
+    assigned_performed :
+        (v : Value) (number of part : ℕ) (tasks : List Task) (found : Found (Cell Value)) (s : State) → s.mode ≡ Running → Runs w s → Left w s.control
+        → is_copying s.control ≡ true → IsInSight w.ghosts v → AssignsApart w.apart WholeFirst (performs of part ∷ tasks)
+        → IsInSight w.ghosts (newest named s) → AllGoOn (On w) (performed_next named tds w.p.bodies v (ends (Assigning number)) of part tasks found s)
+    assigned_performed v number of part tasks on_null s running r h copies sight left sees = tt
+    assigned_performed v number of part tasks on_gone s running r h copies sight left sees = tt
+    assigned_performed v number of part tasks on_other s running r h copies sight left sees = tt
+    assigned_performed v number of part tasks (finds cell) s running r h copies sight left sees =
+        assigned_finalized v number of part tasks (procedure_number (operations_of tds of).finalize) (slice_get cell.parts part) s
+        (assigned_calls tds are_apart WholeFirst of part tasks left).no_finalize running r h copies sight
+        (assigned_called tds are_apart WholeFirst of part tasks left) sees
+
+    -- So they do as one of so many components is picked.
+    assigned_component :
+        (none : Bool) (v : Value) (number : ℕ) (components : List Component) (tasks : List Task) (count : ℕ) (s : State) → s.mode ≡ Running → Runs w s
+        → Left w s.control → is_copying s.control ≡ true → IsInSight w.ghosts v → AssignsApart w.apart WholeFirst (treats components ∷ tasks)
+        → IsInSight w.ghosts (newest named s)
+        → AllGoOn (On w) (if none then halts Stuck
+        else picks count (λ i. treated_on named v (ends (Assigning number)) (picked_task (shapes_of tds) WholeFirst (treats components ∷ tasks) i) s))
+    assigned_component true v number components tasks count s running r h copies sight left sees = tt
+    assigned_component false v number components tasks count s running r h copies sight left sees = λ i below.
+        assigned_on v number (picked_task (shapes_of tds) WholeFirst (treats components ∷ tasks) i) s running r h copies sight
+        (assigned_picked tds are_apart.own WholeFirst components tasks i left) sees
+
+    -- The bodies go on as a record is finalized that is assigned to.
+    assigned_goes :
+        (v : Value) (number : ℕ) (tasks : List Task) (s : State) → IsInSight w.ghosts v → AssignsApart w.apart WholeFirst tasks
+        → IsInSight w.ghosts (newest named s) → s.mode ≡ Running → Runs w s → Left w s.control → is_copying s.control ≡ true
+        → AllGoOn (On w) (treats_next named tds w.p.bodies v (ends (Assigning number)) tasks (task_next tasks) s)
+    assigned_goes v number [] s sight left sees running r h copies = assigned_on v number [] s running r h copies sight left sees
+    assigned_goes v number (treats components ∷ tasks) s sight left sees running r h copies =
+        assigned_component (length components == 0) v number components tasks (length components) s running r h copies sight left sees
+    assigned_goes v number (performs of part ∷ tasks) s sight left sees running r h copies =
+        assigned_performed v number of part tasks (look s.heap v) s running r h copies sight left sees
+
+    -- The bodies go on as an object is treated: they initialize one that they may allocate or declare, or finalize one that they may free or have declared, or
+    -- finalize or adjust a record to which they assign as a whole.
+    pub treats_goes :
+        (v : Value) (treatment : Treatment) (tasks : List Task) (s : State) → IsInSight w.ghosts v → TreatsApart w.apart treatment tasks
+        → ValueSeeks w s.heap (newest named s) (frame.Treats v treatment tasks ∷ s.control)
+        → s.mode ≡ Running → Runs w s → Left w s.control → IsInFront (frame.Treats v treatment tasks) s.control
+        → AllGoOn (On w) (treats_next named tds w.p.bodies v treatment tasks (task_next tasks) s)
+    treats_goes v (begins by done) tasks s sight left seeks running r h front =
+        other_goes tds are_apart v (begins by done) tasks s refl sight left running r h front
+    treats_goes v (ends (Leaving master item)) tasks s sight left seeks running r h front =
+        other_goes tds are_apart v (ends (Leaving master item)) tasks s refl sight left running r h front
+    treats_goes v (ends (Freeing number)) tasks s sight left seeks running r h front =
+        other_goes tds are_apart v (ends (Freeing number)) tasks s refl sight left running r h front
+    treats_goes v (ends (Assigning number)) tasks s sight left seeks running r h front =
+        assigned_goes v number tasks s sight left (in_sight w s.heap r.same (newest named s) seeks) running r h front
+    treats_goes v (ends (Undoing number)) tasks s sight left seeks running r h front =
+        other_goes tds are_apart v (ends (Undoing number)) tasks s refl sight left running r h front
+
+    -- The bodies go on as a record is assigned to another one that has controlled parts (5.2, 7.6): that is finalized, gets the components, and is adjusted. Where
+    -- both are one, nothing is done.
+    pub assigns_go :
+        (t : ℕ) (target source : Value) (same : Option Bool) (s : State) → w.apart.assigns t ≡ true → IsInSight w.ghosts (whole target)
+        → IsInSight w.ghosts (whole source) → IsElsewhere w.ghosts w.unnamed (whole source) → s.mode ≡ Running → Runs w s → Left w s.control
+        → begins_anew s.control ≡ true → AllGoOn (On w) (assigns_next named tds t target source same s)
+    assigns_go t target source None s may sight sees other running r h anew = tt
+    assigns_go t target source (Some true) s may sight sees other running r h anew = runs_on w s running r h (anew_quiet s.control anew)
+    assigns_go t target source (Some false) s may sight sees other running r h anew =
+        let all : (direction : Direction) → AssignsApart w.apart direction (record_tasks tds t direction (part_base target)) = λ direction. record {
+          record_type = t;
+          may = may;
+          left =
+              subst (λ (ts : List TypeDefinition). IsLeftIn w.apart.definitions direction t (record_tasks ts t direction (part_base target))) are_apart.own
+              (whole_in (part_base target));
+        } in
+        let adjusts = begun_left (whole target) (Adjustment s.next) [] (record_tasks tds t PartsFirst (part_base target)) s.control sight
+        (inr (all PartsFirst)) h anew in
+        let k = frame.Copies (base source) t ∷ frame.StoresRecord (whole target) (base target) (width_of tds t)
+        ∷ treating (whole target) (begins (Adjustment s.next) []) (record_tasks tds t PartsFirst (part_base target)) s.control in
+        assigned_on (whole target) s.next (record_tasks tds t WholeFirst (part_base target))
+        (numbered (computed (whole source) (at k s))) running
+        (operands_run w (whole source ∷ operands s) s.activations s.masters s.heap (other, r.operands) r)
+        (tt, refl, (sight, adjusts.1, adjusts.0)) refl sight (all WholeFirst)
+        (newest_sight s.activations (whole source) sees)
+      where
+        newest_sight : (acts : List (Activation Value)) (v : Value) → IsInSight w.ghosts v
+            → IsInSight w.ghosts (first_or Null (operands_of (with_operands (v ∷ operands_of acts) acts)))
+        newest_sight [] v sees = refl
+        newest_sight (a ∷ acts) v sees = sees

@@ -1,6 +1,6 @@
 -- The premise is met: a body stores a value of an access type that it shuns, while the object is there, or copies a record that holds one, or frees another
--- object that is finalized, or allocates one that is initialized, or leaves a master in which it has declared one that is finalized. And it is needed: one that
--- follows such a value changes the object.
+-- object that is finalized, or allocates one that is initialized, or leaves a master in which it has declared one that is finalized, or declares a copy. And it
+-- is needed: one that follows such a value changes the object.
 
 use Rattle.std.specs.Prelude.{◌≡◌, ◌≢◌, ℕ, ℤ, Bool, true, false, List, [], ◌∷◌, Some, None}
 use Rattle.std.specs.List.{slice_get}
@@ -21,7 +21,7 @@ use Rattle.ada_meaning.specs.Frame.{Frame, begins, ends}
 use Rattle.ada_meaning.specs.Frame as frame
 use Rattle.ada_meaning.specs.Heap.{PartState}
 use Rattle.ada_meaning.specs.State.{record_object, Item, Master}
-use Rattle.ada_meaning.specs.Step.{moves, older, procedure_of}
+use Rattle.ada_meaning.specs.Step.{moves, older, owning, procedure_of}
 use Rattle.ada_meaning.specs.Named.{Object, State, object_at, next}
 use Rattle.ada_meaning.specs.Records.{component_at, IsCopied}
 use Rattle.ada_meaning.specs.Run.{takes, Event, Run, Step, first_state}
@@ -159,6 +159,25 @@ pub record FinalizesDeclared (program : Program) (shuns : ℕ → Bool) (apart :
   pub was_reaching : IsReaching (program_form program) shuns apart ghosts unnamed behind lower before
   pub was_within : IsWithin behind before
 
+-- Such a body declares a record object as a copy (3.3.1, 4.3.1), which has no controlled parts, of a type of which none may be declared by default: it is there
+-- next, a component of it names the ghost, and a master of the bodies' own owns it (7.6.1).
+pub record DeclaresCopy (program : Program) (shuns : ℕ → Bool) (apart : Apart) (ghosts unnamed : Id → Bool) (behind : List (Frame Value))
+    (lower : List Master) (b : BodyForm) (s after : State) : Type 0 where
+  pub runs_beside : RunsBeside program shuns apart ghosts unnamed behind lower b s after
+  pub variable : ℕ
+  pub object_type : ℕ
+  pub later : List (Frame Value)
+  pub is_next : s.control ≡ frame.DeclaresRecord variable object_type ∷ later
+  pub not_by_default : may_declare apart object_type ≡ false
+  pub created : Id
+  pub object : Object
+  pub is_new : object_at s.heap created ≡ None
+  pub is_there : object_at after.heap created ≡ Some object
+  pub known_by : object.cell.access ≡ object_type
+  pub component : ℕ
+  pub names_ghost : slice_get object.cell.values component ≡ Some (Names runs_beside.ghost)
+  pub owns : after.masters ≡ owning (record { number = object.cell.home.item; owned = record_object object_type }) s.masters
+
 -- A body that does not shun these types follows a value of one: the step looks at the object that it names, and changes it.
 pub record FollowsGhost (program : Program) (shuns : ℕ → Bool) (apart : Apart) (ghosts : Id → Bool) (b : BodyForm) (s after : State) : Type 0 where
   pub runs_on : RunsOn program b s after
@@ -214,6 +233,15 @@ DeclarationIsMet =
     × ((shuns : (ℕ → Bool)) × (apart : Apart) × (ghosts : (Id → Bool)) × (unnamed : (Id → Bool)) × (behind : List (Frame Value))
     × (lower : List Master) × (b : BodyForm) × (after : State)
     × FinalizesDeclared program shuns apart ghosts unnamed behind lower b before s after)))
+
+-- so is the declaration of a copy,
+abbrev pub CopiedDeclarationIsMet : Type 0
+CopiedDeclarationIsMet =
+    (program : Program) × IsWellFormed (program_form program)
+    × ((input : List ℤ) × (events : List Event) × (s : State) × Run program (first_state program input) events s
+    × ((shuns : (ℕ → Bool)) × (apart : Apart) × (ghosts : (Id → Bool)) × (unnamed : (Id → Bool)) × (behind : List (Frame Value))
+    × (lower : List Master) × (b : BodyForm) × (after : State)
+    × DeclaresCopy program shuns apart ghosts unnamed behind lower b s after))
 
 -- and so is the other.
 abbrev pub PremiseIsNeeded : Type 0

@@ -1,16 +1,18 @@
 -- Bodies that shun some access types (3.10): they follow no value of one (4.1) and free none (13.11.2), and call procedures alone whose bodies do so. They
--- may move such values, store them, compare them with null, pass them, and copy them with records that have no controlled parts (7.6). They create no collection
+-- may move such values, store them, compare them with null, pass them, and copy them with records that have no controlled parts (7.6), or that may be assigned
+-- to as wholes though they have some. They create no collection
 -- and no pool; objects with controlled parts they may free of some access types, and allocate of some by default, and record objects they may declare of some
--- types by default.
+-- types by default, and with an initial value without such parts.
 
-use Rattle.std.specs.Prelude.{ℕ, Bool, true, false, not, ◌&&◌, ◌||◌, List, [], ◌∷◌, Option, Some, None, is_some}
+use Rattle.std.specs.Prelude.{ℕ, Bool, true, false, not, ◌&&◌, ◌||◌, List, [], ◌∷◌, map, Option, Some, None, is_some}
 use Rattle.std.specs.List.{list_all}
 use Rattle.ada_program.specs.Form.{PathForm, RecordPathForm, ActualForm, in_value, in_null, in_access, in_record, in_out_path, in_out_access, in_out_component, in_out_record, ExpressionForm, integer, boolean, reads, is_null, applied_to, chained, LinksForm, no_more_links, a_link, ItemForm, null_item, item_of_path, item_of_value, item_of_record, RightForm, nothing, value_of, allocates, allocates_default, computes, DeclarationForm, creates_pool, collects, declares, declares_record, StmtForm, skips, assigns, assigns_record, frees, gets, writes, writes_text, chooses, repeats, counts, exits, calls, returns, raises, encloses, StmtsForm, no_stmts, a_stmt, BranchesForm, otherwise, a_branch, HandlersForm, no_handlers, a_handler}
 use Rattle.ada_program.specs.declared.program.VariableKind.{VariableKind}
 use Rattle.ada_program.specs.declared.program.VariableKind.TheVariants as variable
-use Rattle.ada_program.specs.ProgramForm.{TypeForm, VariableForm, BodyForm}
+use Rattle.ada_program.specs.ProgramForm.{TypeForm, VariableForm, BodyForm, type_form}
 use Rattle.ada_program.specs.WellFormed.{finalization_of, path_kind, selected_kind, variable_kind}
 use Rattle.ada_quiet.specs.Bare.{has_bare_objects}
+use Rattle.ada_quiet.specs.Idle.{holds_parts}
 use Rattle.ada_reaching.specs.Apart.{Apart}
 
 -- What is held may be followed, and freed: it is no value of an access type that is shunned.
@@ -29,6 +31,10 @@ may_end apart (Some variable.Boolean) = true
 may_end apart (Some (variable.Access access)) = apart.ends access.0
 may_end apart (Some (variable.Record object)) = true
 
+-- A record may be assigned to as a whole (5.2): it has no controlled parts, or is of a type with some of which this may be.
+abbrev pub may_assign : List TypeForm → Apart → (record_type : ℕ) → Bool
+may_assign types apart t = not (is_some (finalization_of types t)) || apart.assigns t
+
 -- An object of an access type may be allocated by default (4.8): it has no controlled parts, or those with some may be.
 abbrev pub may_start : List TypeForm → Apart → (access : ℕ) → Bool
 may_start types apart access = has_bare_objects types access || apart.starts access
@@ -37,6 +43,10 @@ may_start types apart access = has_bare_objects types access || apart.starts acc
 -- initialization (7.6.1).
 abbrev pub may_declare : Apart → (object_type : ℕ) → Bool
 may_declare apart t = apart.starts t && apart.ends t
+
+-- A record object may have been declared so, or has no controlled parts (7.6): then nothing is to be done for it, whatever it got at first.
+abbrev pub may_own : Apart → (object_type : ℕ) → Bool
+may_own apart t = may_declare apart t || not (holds_parts (map type_form apart.definitions) t)
 
 -- Selectors follow no value that is shunned: each follows the value in front of it, and the last value is not followed (4.1.3).
 abbrev pub selectors_shun : List TypeForm → (shuns : ℕ → Bool) → Option VariableKind → (selectors : List ℕ) → Bool
@@ -100,13 +110,14 @@ module _ (types : List TypeForm) (shuns : ℕ → Bool) (apart : Apart) (variabl
   actual_shuns (in_out_component path) = path_shuns path
   actual_shuns (in_out_record q) = record_path_shuns q
 
-  -- A declaration is that of a variable, of whatever type (3.3.1), or of a record object by default, of a type of which some may be declared.
+  -- A declaration is that of a variable, of whatever type (3.3.1); of a record object by default, of a type of which some may be declared; or of one without
+  -- controlled parts, and the items of its initial value follow no such value (4.3.1, 7.6).
   abbrev pub declaration_shuns : DeclarationForm → Bool
   declaration_shuns (creates_pool p) = false
   declaration_shuns (collects access) = false
   declaration_shuns (declares x right) = right_shuns right
   declaration_shuns (declares_record x t None) = may_declare apart t
-  declaration_shuns (declares_record x t (Some items)) = false
+  declaration_shuns (declares_record x t (Some items)) = not (holds_parts types t) && list_all item_shuns items
 
   -- So is each of these.
   abbrev pub declarations_shun : List DeclarationForm → Bool
@@ -114,12 +125,12 @@ module _ (types : List TypeForm) (shuns : ℕ → Bool) (apart : Apart) (variabl
 
   abbrev mutual
     -- The paths of a statement follow no value that is shunned, and so it is inside it (5.1). No such value is freed, nor one of an access type whose objects
-    -- may not be freed (13.11.2), and no record with controlled parts is assigned to as a whole (5.2, 7.6).
+    -- may not be freed (13.11.2), and a record with controlled parts is assigned to as a whole only where it is of a type of which this may be (5.2, 7.6).
     pub statement_shuns : StmtForm → Bool
     statement_shuns skips = true
     statement_shuns (assigns target right) = path_shuns target && right_shuns right
     statement_shuns (assigns_record target items) =
-        record_path_shuns target && list_all item_shuns items && not (is_some (finalization_of types target.record_type))
+        record_path_shuns target && list_all item_shuns items && may_assign types apart target.record_type
     statement_shuns (frees access path) = path_shuns path && may_follow shuns (path_kind types variables path) && may_end apart (path_kind types variables path)
     statement_shuns (gets target) = path_shuns target
     statement_shuns (writes e) = expression_shuns e

@@ -7,24 +7,27 @@ use Rattle.std.specs.List.{list_all, slice_get}
 use Rattle.ada_program.specs.declared.program.VariableKind.TheVariants as variable
 use Rattle.ada_program.specs.ProgramForm.{TypeForm, VariableForm, BodyForm, ProgramForm, seen_in}
 use Rattle.ada_program.specs.WellFormed.{is_access, selected_kind, selectors_kind, value_access}
+use Rattle.ada_quiet.specs.Idle.{holds_parts}
 use Rattle.ada_meaning.specs.declared.state.Id.{Id}
 use Rattle.ada_meaning.specs.declared.state.Mode.{Mode}
 use Rattle.ada_meaning.specs.declared.state.Mode.TheVariants.{Running, Raising, Exiting, Returning}
 use Rattle.ada_meaning.specs.declared.state.Value.{Value}
 use Rattle.ada_meaning.specs.declared.state.Value.TheVariants.{Null, Names, Scalar, Part}
+use Rattle.ada_parts.specs.declared.tasks.Direction.{Direction}
 use Rattle.ada_parts.specs.declared.tasks.Direction.TheVariants.{PartsFirst, WholeFirst}
 use Rattle.ada_parts.specs.Part as parts
 use Rattle.ada_parts.specs.Task.{Task}
 use Rattle.ada_meaning.specs.declared.event.Birth.{Birth}
 use Rattle.ada_meaning.specs.declared.event.Birth.TheVariants.{Creation}
+use Rattle.ada_meaning.specs.declared.event.Cause.TheVariants.{Assigning}
 use Rattle.ada_meaning.specs.Frame.{Frame, Treatment, begins, ends, is_return}
 use Rattle.ada_meaning.specs.Frame as frame
 use Rattle.ada_meaning.specs.State.{Activation, Owned, declared, collection, record_object, storage_pool, Item, Master, height}
 use Rattle.ada_meaning.specs.Step.{operands_of, older, places_of, procedure_of}
 use Rattle.ada_meaning.specs.Named.{Object, State, object_at}
 use Rattle.ada_untouched.specs.Untouched.{IsInSight}
-use Rattle.ada_reaching.specs.Apart.{Apart, AreBegunIn, AreUndoneIn, IsBegunIn, IsLeftOf}
-use Rattle.ada_reaching.specs.Forms.{may_declare, may_follow, may_end, may_start, selectors_shun, record_path_shuns, path_shuns, expression_shuns, links_shun, condition_shuns, item_shuns, right_shuns, declarations_shun, statements_shun, branches_shun, handlers_shun, body_shuns}
+use Rattle.ada_reaching.specs.Apart.{Apart, AreBegunIn, AreUndoneIn, IsBegunIn, IsLeftIn, IsLeftOf}
+use Rattle.ada_reaching.specs.Forms.{may_own, may_follow, may_end, may_start, selectors_shun, record_path_shuns, path_shuns, expression_shuns, links_shun, condition_shuns, item_shuns, right_shuns, declarations_shun, statements_shun, branches_shun, handlers_shun, body_shuns}
 
 -- An object is there, and is of an access type that is shunned (3.10).
 pub record IsOfShunned (types : List TypeForm) (shuns : ℕ → Bool) (found : Option Object) : Type 0 where
@@ -62,7 +65,8 @@ AreElsewhere ghosts unnamed [] = Unit {0}
 AreElsewhere ghosts unnamed (v ∷ vs) = IsElsewhere ghosts unnamed v × AreElsewhere ghosts unnamed vs
 
 -- A frame looks for the object that the newest operand names: to follow selectors (4.1.3), to assign or read to a component (5.2), to assign to a record or
--- copy one (5.2), to free what a component holds (13.11.2), or to refer to a record or a component (6.2, 6.4.1).
+-- copy one (5.2), to free what a component holds (13.11.2), or to refer to a record or a component (6.2, 6.4.1). A record that is assigned to is finalized before
+-- the one is copied which the newest operand names (7.6).
 abbrev pub is_seeking : Frame Value → Bool
 is_seeking (frame.Follows cs) = true
 is_seeking (frame.RefersIn place t) = true
@@ -72,6 +76,7 @@ is_seeking (frame.TargetsRecord c t items) = true
 is_seeking (frame.Copies c t) = true
 is_seeking (frame.Receives c) = true
 is_seeking (frame.FreesIn access c) = true
+is_seeking (frame.Treats v (ends (Assigning number)) tasks) = true
 is_seeking f = false
 
 -- A master is left first, or what is finalized in it ends before (7.6.1).
@@ -92,9 +97,17 @@ seeks_nothing (f ∷ k) = not (is_seeking f)
 abbrev pub begins_anew : List (Frame Value) → Bool
 begins_anew k = seeks_nothing k && not (is_leaving k)
 
--- A frame that looks for an object waits behind one alone that follows selectors; and a master is left behind the end of what has been finalized in it.
+-- A record is copied next.
+abbrev pub is_copying : List (Frame Value) → Bool
+is_copying [] = false
+is_copying (frame.Copies c t ∷ k) = true
+is_copying (f ∷ k) = false
+
+-- A frame that looks for an object waits behind one alone that follows selectors, or, where it copies a record, behind one that finalizes that to which it is
+-- assigned; and a master is left behind the end of what has been finalized in it.
 abbrev pub IsInFront : Frame Value → (behind : List (Frame Value)) → Type 0
 IsInFront (frame.Follows cs) k = is_leaving k ≡ false
+IsInFront (frame.Treats v (ends (Assigning number)) tasks) k = is_copying k ≡ true
 IsInFront (frame.Treats v (ends cause) tasks) k = seeks_nothing k ≡ true
 IsInFront (frame.Ends v) k = seeks_nothing k ≡ true
 IsInFront (frame.GivesBack v cause pool) k = seeks_nothing k ≡ true
@@ -123,9 +136,16 @@ EndsApart apart tasks =
     (access : ℕ) × (((apart.ends access ≡ true) × IsLeftOf apart.definitions WholeFirst access tasks)
     ⊎ ((apart.starts access ≡ true) × AreUndoneIn apart.definitions access tasks))
 
+-- What is left of the finalization or the adjustment of a record is that of one to which the bodies may assign as a whole (5.2, 7.6).
+pub record AssignsApart (apart : Apart) (direction : Direction) (tasks : List Task) : Type 0 where
+  pub record_type : ℕ
+  pub may : apart.assigns record_type ≡ true
+  pub left : IsLeftIn apart.definitions direction record_type tasks
+
 -- So it is with what is left of the treatment of an object.
 abbrev pub TreatsApart : Apart → Treatment → List Task → Type 0
-TreatsApart apart (begins by done) tasks = StartsApart apart by done tasks
+TreatsApart apart (begins by done) tasks = StartsApart apart by done tasks ⊎ AssignsApart apart PartsFirst tasks
+TreatsApart apart (ends (Assigning number)) tasks = AssignsApart apart WholeFirst tasks
 TreatsApart apart (ends cause) tasks = EndsApart apart tasks
 
 -- The operation runs that begins a part of such an object, behind which this is left.
@@ -134,7 +154,7 @@ pub record AwaitsApart (apart : Apart) (by : Birth) (done : List parts.Part) (of
   pub begins : IsBegunIn apart.definitions starts.access of part
 
 -- What a frame holds of a body with these variables shuns the types, and names no ghost where it stores, clears, begins, finalizes, ends or gives back. What is
--- assigned to has no controlled parts, and neither has what is created, unless such objects may be.
+-- assigned to has no controlled parts, unless it may be assigned to so, and neither has what is created, unless such objects may be.
 module _ (types : List TypeForm) (shuns : ℕ → Bool) (apart : Apart) (bodies : List BodyForm) (ghosts : Id → Bool) (variables : List VariableForm) where
   abbrev pub FrameShuns : Frame Value → Type 0
   FrameShuns (frame.Elaborates ds fs hs) =
@@ -160,8 +180,8 @@ module _ (types : List TypeForm) (shuns : ℕ → Bool) (apart : Apart) (bodies 
   FrameShuns (frame.StoresIn v c) = IsInSight ghosts v
   FrameShuns (frame.TargetsRecord c t items) = list_all (item_shuns types shuns apart variables) items ≡ true
   FrameShuns (frame.StoresRecord v c count) = IsInSight ghosts v
-  FrameShuns (frame.Assigns t) = ⊥
-  FrameShuns (frame.DeclaresRecord x t) = ⊥
+  FrameShuns (frame.Assigns t) = apart.assigns t ≡ true
+  FrameShuns (frame.DeclaresRecord x t) = not (holds_parts types t) ≡ true
   FrameShuns (frame.Treats v treatment tasks) = IsInSight ghosts v × TreatsApart apart treatment tasks
   FrameShuns (frame.Awaits v by done of part tasks) = IsInSight ghosts v × AwaitsApart apart by done of part tasks
   FrameShuns (frame.Ends v) = IsInSight ghosts v
@@ -169,11 +189,11 @@ module _ (types : List TypeForm) (shuns : ℕ → Bool) (apart : Apart) (bodies 
   FrameShuns (frame.ClearsIn v c) = IsInSight ghosts v
   FrameShuns f = Unit {0}
 
--- An item of a master of the bodies' own is a variable, or a record object that they may declare (3.3.1).
+-- An item of a master of the bodies' own is a variable, or a record object that they may declare by default, or that has no controlled parts (3.3.1, 7.6).
 abbrev pub IsOwnedApart : Apart → Owned → Type 0
 IsOwnedApart apart (declared x) = Unit {0}
 IsOwnedApart apart (collection access pool) = ⊥
-IsOwnedApart apart (record_object t) = may_declare apart t ≡ true
+IsOwnedApart apart (record_object t) = may_own apart t ≡ true
 IsOwnedApart apart (storage_pool declaration number) = ⊥
 
 -- So is each of these, and is numbered behind the items of the masters that were entered before.
@@ -181,8 +201,8 @@ abbrev pub AreOwnedApart : Apart → (lower : List Master) → List Item → Typ
 AreOwnedApart apart lower [] = Unit {0}
 AreOwnedApart apart lower (i ∷ is) = (IsOwnedApart apart i.owned × (height lower ≤ i.number)) × AreOwnedApart apart lower is
 
--- What is left behind a frame, by the masters of the bodies' own, the innermost one first: a frame stands for one that is open or being left, and a variable is
--- declared in one.
+-- What is left behind a frame, by the masters of the bodies' own, the innermost one first: a frame stands for one that is open or being left, and a variable or
+-- a record object is declared in one.
 abbrev pub InMasters :
     Apart → (lower : List Master) → Frame Value → (upper : List Master) → (left : List Master → Type 0) → Type 0
 InMasters apart lower (frame.Elaborates ds fs hs) [] left = ⊥
@@ -193,6 +213,8 @@ InMasters apart lower (frame.Leaves mode) [] left = ⊥
 InMasters apart lower (frame.Leaves mode) (m ∷ ms) left = AreOwnedApart apart lower m.items × left ms
 InMasters apart lower (frame.Declares x) [] left = ⊥
 InMasters apart lower (frame.Declares x) (m ∷ ms) left = left (m ∷ ms)
+InMasters apart lower (frame.DeclaresRecord x t) [] left = ⊥
+InMasters apart lower (frame.DeclaresRecord x t) (m ∷ ms) left = left (m ∷ ms)
 InMasters apart lower f ms left = left ms
 
 -- What refers, where the call of a body ends, to the components that are given for its formal parameters of mode `in out` (6.4.1).
@@ -247,6 +269,7 @@ Seeks types shuns apart may access (frame.OpensIn c ∷ k) = (may ≡ true)
 Seeks types shuns apart may access (frame.Targets c right ∷ k) = (may ≡ true)
 Seeks types shuns apart may access (frame.TargetsRecord c t items ∷ k) = (may ≡ true)
 Seeks types shuns apart may access (frame.Copies c t ∷ k) = (may ≡ true)
+Seeks types shuns apart may access (frame.Treats v (ends (Assigning number)) tasks ∷ k) = (may ≡ true)
 Seeks types shuns apart may access (frame.Receives c ∷ k) = (may ≡ true)
 Seeks types shuns apart may access (frame.FreesIn t c ∷ k) =
     (may ≡ true)

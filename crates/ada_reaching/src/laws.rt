@@ -2,10 +2,11 @@
 //! theorem.
 
 ghost use Rattle.ada_reaching.specs.Deeds.{UnusedObjectsAreUntouched};
-ghost use Rattle.ada_reaching.specs.Example.{CopyIsMet, DeclarationIsMet, FinalizationIsMet, InitializationIsMet, PremiseIsMet, PremiseIsNeeded};
+ghost use Rattle.ada_reaching.specs.Example.{CopiedDeclarationIsMet, CopyIsMet, DeclarationIsMet, FinalizationIsMet, InitializationIsMet, PremiseIsMet, PremiseIsNeeded};
 ghost use Rattle.ada_reaching.specs.Law.{ShunnedObjectsAreUntouched};
 
-/// While bodies run that follow and free no value of some access types, and the operations of what they free and allocate, each object of
+/// While bodies run that follow and free no value of some access types, and the operations of what they free and allocate, and assign to
+/// records with controlled parts as wholes only where nothing is called (5.2), each object of
 /// these types stays as it is into which no reference of theirs to a record or a component leads, and so does a declared record object
 /// (3.3.1) of which that is so, too, and that no variable or operand of theirs names; and what is left of the bodies is so still. No step
 /// looks at one of these objects, nor does one that treats another object (7.6, 7.6.1).
@@ -51,6 +52,13 @@ pub fn objects_are_initialized()
 /// type is there that both bodies shun, and so does that Finalize.
 pub fn objects_are_declared()
     ensures { DeclarationIsMet }
+{}
+
+/// So they are where a record object is declared as a copy (3.3.1): in a run of a well-formed program a procedure that such a body calls
+/// declares one without controlled parts, a component of it gets the name of an object of an access type that both bodies shun, and the
+/// procedure's own master owns it.
+pub fn copies_are_declared()
+    ensures { CopiedDeclarationIsMet }
 {}
 
 /// And the premise is needed: in a run of a well-formed program a body follows a value of such a type, and the step looks at the object and

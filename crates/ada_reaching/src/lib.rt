@@ -3,8 +3,8 @@
 //! theorem on the definitions of meaning, and its contract is the statement.
 //!
 //! What a crate above takes from here: `Apart` of `specs::Apart`, `body_shuns` of `specs::Forms`, `IsReaching` of `specs::Reaching`,
-//! `operation_reaches` and `stays_reaching` of `proofs::Law`, `unused_apart` of `proofs::Deeds`, and what `proofs::Behind` says of an
-//! operation that such bodies wait for.
+//! `operation_reaches` and `stays_reaching` of `proofs::Law`, `unused_apart` of `proofs::Deeds`, `inert_calls_nothing` of `proofs::Inert`,
+//! and what `proofs::Behind` says of an operation that such bodies wait for.
 #![tactic(auto)]
 
 pub mod laws;

@@ -1,24 +1,37 @@
 -- Frugal bodies (7.6, 4.8, 13.11.2) that free no objects with controlled parts, or may do so, and that create none and declare no record objects, or may do so,
--- as what is proved of them tells them apart.
+-- as what is proved of them tells them apart. The body of an operation itself may assign to inert records as wholes (5.2).
 
-use Rattle.std.proofs.Common.{◌≡◌, ℕ, Bool, true, false, ◌&&◌, ◌||◌, List, refl, [], ◌∷◌}
-use Rattle.std.specs.Prelude.{not, is_some, Some, None}
+use Rattle.std.proofs.Common.{◌≡◌, ℕ, Bool, true, false, ◌&&◌, ◌||◌, List, refl, sym, ◌∙◌, [], ◌∷◌}
+use Rattle.std.specs.Prelude.{not, is_some, if◌then◌else◌, Some, None}
 use Rattle.std.specs.List.{list_all, slice_index_or}
-use Rattle.std.proofs.lemmas.Bool.{and_parts}
-use Rattle.ada_program.specs.Form.{RightForm, nothing, value_of, allocates, allocates_default, computes, DeclarationForm, creates_pool, collects, declares, declares_record, StmtForm, skips, assigns, assigns_record, frees, gets, writes, writes_text, chooses, repeats, counts, exits, calls, returns, raises, encloses, StmtsForm, no_stmts, a_stmt, BranchesForm, otherwise, a_branch, HandlersForm, no_handlers, a_handler}
+use Rattle.std.proofs.lemmas.Bool.{and_from, and_parts, or_left}
+use Rattle.ada_effects.specs.Effects.{record_path_raises}
+use Rattle.ada_program.specs.Form.{RecordPathForm, ItemForm, RightForm, nothing, value_of, allocates, allocates_default, computes, DeclarationForm, creates_pool, collects, declares, declares_record, StmtForm, skips, assigns, assigns_record, frees, gets, writes, writes_text, chooses, repeats, counts, exits, calls, returns, raises, encloses, StmtsForm, no_stmts, a_stmt, BranchesForm, otherwise, a_branch, HandlersForm, no_handlers, a_handler}
+use Rattle.ada_program.specs.Nested.{collected, record_nests}
 use Rattle.ada_program.specs.ProgramForm.{TypeForm, BodyForm, ProgramForm}
 use Rattle.ada_program.specs.WellFormed.{finalization_of}
 use Rattle.ada_quiet.specs.Apart.{is_bare_item}
 use Rattle.ada_quiet.specs.Bare.{has_bare_objects}
-use Rattle.ada_quiet.specs.Frugal.{allocates_frugally, is_frugal_declaration, are_frugal_declarations, frugal_procedures, is_frugal_stmt, are_frugal, are_frugal_branches, are_frugal_handlers, is_frugal_body, thrift_of}
+use Rattle.ada_quiet.specs.Calm.{inert_types, is_known_calm}
+use Rattle.ada_quiet.specs.Idle.{holds_parts}
+use Rattle.ada_quiet.specs.Frugal.{allocates_frugally, is_bare_initial, is_frugal_declaration, are_frugal_declarations, frugal_procedures, is_frugal_stmt, are_frugal, are_frugal_branches, are_frugal_handlers, is_frugal_body, Thrift, assigns_at_hand, thrift_of}
 
 -- What such bodies go by: as frugal ones do, whether they may free objects with controlled parts, and whether they may allocate some and declare record
 -- objects.
 pub record Allowance : Type 0 where
   pub types : List TypeForm
+  pub inert : List Bool
   pub treats_parts : Bool
   pub objects : Bool
   pub procedures : List Bool
+
+-- It is known of a record type that it is inert (7.6).
+abbrev pub is_inert : Allowance → (record_type : ℕ) → Bool
+is_inert allowance t = is_known_calm allowance.inert (finalization_of allowance.types t)
+
+-- The body of an operation itself may assign to a record of such a type as a whole (5.2).
+abbrev pub may_assign : Allowance → (own : Bool) → (record_type : ℕ) → Bool
+may_assign allowance own t = allowance.treats_parts && own && is_inert allowance t
 
 -- Such a body may free objects of an access type (13.11.2): they have no controlled parts, or it may treat those that have some.
 abbrev pub may_treat : Allowance → (access : ℕ) → Bool
@@ -36,25 +49,31 @@ allocates_thriftily allowance (allocates access items) = has_bare_objects allowa
 allocates_thriftily allowance (allocates_default access) = may_create allowance access
 allocates_thriftily allowance (computes e) = true
 
+-- Or declare a record object with an initial value (3.3.1): one without controlled parts, where it may declare some.
+abbrev pub may_fill : Allowance → (object_type : ℕ) → Bool
+may_fill allowance t = allowance.objects && not (holds_parts allowance.types t)
+
 -- So it is with what a variable is given at first (3.3.1), and nothing but variables is declared, unless record objects may be.
 abbrev pub is_thrifty_declaration : Allowance → DeclarationForm → Bool
 is_thrifty_declaration allowance (creates_pool p) = false
 is_thrifty_declaration allowance (collects access) = false
 is_thrifty_declaration allowance (declares x right) = allocates_thriftily allowance right
 is_thrifty_declaration allowance (declares_record x t None) = allowance.objects
-is_thrifty_declaration allowance (declares_record x t (Some items)) = false
+is_thrifty_declaration allowance (declares_record x t (Some items)) = may_fill allowance t
 
 -- So it is with declarations.
 abbrev pub are_thrifty_declarations : Allowance → List DeclarationForm → Bool
 are_thrifty_declarations allowance ds = list_all (is_thrifty_declaration allowance) ds
 
-module _ (allowance : Allowance) where
+-- Whether it is the body of an operation itself, or one that is called.
+module _ (allowance : Allowance) (own : Bool) where
   abbrev mutual
-    -- A statement is frugal, and allocates and frees no object with controlled parts unless it may (4.8, 13.11.2).
+    -- A statement is frugal, and allocates, frees and assigns nothing with controlled parts unless it may (4.8, 13.11.2, 5.2).
     pub is_thrifty_stmt : StmtForm → Bool
     is_thrifty_stmt skips = true
     is_thrifty_stmt (assigns target right) = allocates_thriftily allowance right
-    is_thrifty_stmt (assigns_record target items) = not (is_some (finalization_of allowance.types target.record_type))
+    is_thrifty_stmt (assigns_record target items) =
+        not (is_some (finalization_of allowance.types target.record_type)) || may_assign allowance own target.record_type
     is_thrifty_stmt (frees access path) = may_treat allowance access
     is_thrifty_stmt (gets target) = true
     is_thrifty_stmt (writes e) = true
@@ -84,40 +103,58 @@ module _ (allowance : Allowance) where
     are_thrifty_handlers (a_handler choices fs hs) = are_thrifty fs && are_thrifty_handlers hs
 
 -- All of a body is so.
-abbrev pub is_thrifty_body : Allowance → BodyForm → Bool
-is_thrifty_body allowance b = are_thrifty_declarations allowance b.declarations && are_thrifty allowance b.statements && are_thrifty_handlers allowance b.handlers
+abbrev pub is_thrifty_body : Allowance → (own : Bool) → BodyForm → Bool
+is_thrifty_body allowance own b =
+    are_thrifty_declarations allowance b.declarations && are_thrifty allowance own b.statements && are_thrifty_handlers allowance own b.handlers
 
 -- Those of a program, which may free and create such objects.
 abbrev pub allowance_of : ProgramForm → Allowance
-allowance_of p = record { types = p.types; treats_parts = true; objects = true; procedures = frugal_procedures p }
+allowance_of p = record { types = p.types; inert = inert_types p.types; treats_parts = true; objects = true; procedures = frugal_procedures p }
 
 -- What is frugal is so.
-module _ (p : ProgramForm) where
-  right_thrifty : (right : RightForm) → allocates_frugally (thrift_of p) right ≡ true → allocates_thriftily (allowance_of p) right ≡ true
+module _ (p : ProgramForm) (own : Bool) where
+  -- What the body goes by.
+  abbrev judged : Thrift
+  judged = record (thrift_of p) { operation = own }
+
+  right_thrifty : (right : RightForm) → allocates_frugally judged right ≡ true → allocates_thriftily (allowance_of p) right ≡ true
   right_thrifty nothing is = refl
   right_thrifty (value_of path) is = refl
   right_thrifty (allocates access items) is = is
   right_thrifty (allocates_default access) is = refl
   right_thrifty (computes e) is = refl
 
-  declaration_thrifty : (d : DeclarationForm) → is_frugal_declaration (thrift_of p) d ≡ true → is_thrifty_declaration (allowance_of p) d ≡ true
+  declaration_thrifty : (d : DeclarationForm) → is_frugal_declaration judged d ≡ true → is_thrifty_declaration (allowance_of p) d ≡ true
   declaration_thrifty (creates_pool pool) is = is
   declaration_thrifty (collects access) is = is
   declaration_thrifty (declares x right) is = right_thrifty right is
   declaration_thrifty (declares_record x t None) is = refl
-  declaration_thrifty (declares_record x t (Some items)) is = is
+  declaration_thrifty (declares_record x t (Some items)) is =
+      let bare = and_parts (record_nests p.types (collected p.declarations) t) (is_bare_initial p.types t items) is in
+      (and_parts (not (holds_parts p.types t)) (list_all (is_bare_item p.types) items) bare.1).0
 
-  declarations_thrifty : (ds : List DeclarationForm) → are_frugal_declarations (thrift_of p) ds ≡ true → are_thrifty_declarations (allowance_of p) ds ≡ true
+  declarations_thrifty : (ds : List DeclarationForm) → are_frugal_declarations judged ds ≡ true → are_thrifty_declarations (allowance_of p) ds ≡ true
   declarations_thrifty [] is = refl
   declarations_thrifty (d ∷ ds) is =
-      let both = and_parts (is_frugal_declaration (thrift_of p) d) (are_frugal_declarations (thrift_of p) ds) is in
+      let both = and_parts (is_frugal_declaration judged d) (are_frugal_declarations judged ds) is in
       rw (declaration_thrifty d both.0, declarations_thrifty ds both.1) refl
 
+  -- A record that is assigned has no controlled parts, or is inert, and assigned by the body of an operation itself.
+  assigned_thrifty :
+      (target : RecordPathForm) (items : List ItemForm) (parted : Bool)
+      → (if parted then assigns_at_hand judged target else list_all (is_bare_item p.types) items) ≡ true
+      → (not parted || may_assign (allowance_of p) own target.record_type) ≡ true
+  assigned_thrifty target items false is = refl
+  assigned_thrifty target items true is =
+      let three = and_parts (own && is_inert (allowance_of p) target.record_type && not (record_path_raises target)) _ is in
+      let two = and_parts (own && is_inert (allowance_of p) target.record_type) (not (record_path_raises target)) three.0 in
+      two.0
+
   mutual
-    stmt_thrifty : (f : StmtForm) → is_frugal_stmt (thrift_of p) f ≡ true → is_thrifty_stmt (allowance_of p) f ≡ true
+    stmt_thrifty : (f : StmtForm) → is_frugal_stmt judged f ≡ true → is_thrifty_stmt (allowance_of p) own f ≡ true
     stmt_thrifty skips is = refl
     stmt_thrifty (assigns target right) is = right_thrifty right is
-    stmt_thrifty (assigns_record target items) is = (and_parts (not (is_some (finalization_of p.types target.record_type))) (list_all (is_bare_item p.types) items) is).0
+    stmt_thrifty (assigns_record target items) is = assigned_thrifty target items (is_some (finalization_of p.types target.record_type)) is
     stmt_thrifty (frees access path) is = refl
     stmt_thrifty (gets target) is = refl
     stmt_thrifty (writes e) is = refl
@@ -130,42 +167,98 @@ module _ (p : ProgramForm) where
     stmt_thrifty (returns spot) is = refl
     stmt_thrifty (raises e) is = refl
     stmt_thrifty (encloses ds fs hs) is =
-        let two = and_parts (are_frugal_declarations (thrift_of p) ds && are_frugal (thrift_of p) fs) (are_frugal_handlers (thrift_of p) hs) is in
-        let three = and_parts (are_frugal_declarations (thrift_of p) ds) (are_frugal (thrift_of p) fs) two.0 in
+        let two = and_parts (are_frugal_declarations judged ds && are_frugal judged fs) (are_frugal_handlers judged hs) is in
+        let three = and_parts (are_frugal_declarations judged ds) (are_frugal judged fs) two.0 in
         rw (declarations_thrifty ds three.0, stmts_thrifty fs three.1, handlers_thrifty hs two.1) refl
 
-    stmts_thrifty : (fs : StmtsForm) → are_frugal (thrift_of p) fs ≡ true → are_thrifty (allowance_of p) fs ≡ true
+    stmts_thrifty : (fs : StmtsForm) → are_frugal judged fs ≡ true → are_thrifty (allowance_of p) own fs ≡ true
     stmts_thrifty no_stmts is = refl
     stmts_thrifty (a_stmt f fs) is =
-        let both = and_parts (is_frugal_stmt (thrift_of p) f) (are_frugal (thrift_of p) fs) is in rw (stmt_thrifty f both.0, stmts_thrifty fs both.1) refl
+        let both = and_parts (is_frugal_stmt judged f) (are_frugal judged fs) is in rw (stmt_thrifty f both.0, stmts_thrifty fs both.1) refl
 
-    branches_thrifty : (branches : BranchesForm) → are_frugal_branches (thrift_of p) branches ≡ true → are_thrifty_branches (allowance_of p) branches ≡ true
+    branches_thrifty : (branches : BranchesForm) → are_frugal_branches judged branches ≡ true → are_thrifty_branches (allowance_of p) own branches ≡ true
     branches_thrifty (otherwise fs) is = stmts_thrifty fs is
     branches_thrifty (a_branch e fs branches) is =
-        let both = and_parts (are_frugal (thrift_of p) fs) (are_frugal_branches (thrift_of p) branches) is in
+        let both = and_parts (are_frugal judged fs) (are_frugal_branches judged branches) is in
         rw (stmts_thrifty fs both.0, branches_thrifty branches both.1) refl
 
-    handlers_thrifty : (hs : HandlersForm) → are_frugal_handlers (thrift_of p) hs ≡ true → are_thrifty_handlers (allowance_of p) hs ≡ true
+    handlers_thrifty : (hs : HandlersForm) → are_frugal_handlers judged hs ≡ true → are_thrifty_handlers (allowance_of p) own hs ≡ true
     handlers_thrifty no_handlers is = refl
     handlers_thrifty (a_handler choices fs hs) is =
-        let both = and_parts (are_frugal (thrift_of p) fs) (are_frugal_handlers (thrift_of p) hs) is in
+        let both = and_parts (are_frugal judged fs) (are_frugal_handlers judged hs) is in
         rw (stmts_thrifty fs both.0, handlers_thrifty hs both.1) refl
 
   -- So is a body.
-  pub body_thrifty : (b : BodyForm) → is_frugal_body (thrift_of p) b ≡ true → is_thrifty_body (allowance_of p) b ≡ true
+  pub body_thrifty : (b : BodyForm) → is_frugal_body judged b ≡ true → is_thrifty_body (allowance_of p) own b ≡ true
   body_thrifty b is =
-      let two = and_parts (are_frugal_declarations (thrift_of p) b.declarations && are_frugal (thrift_of p) b.statements) (are_frugal_handlers (thrift_of p) b.handlers) is in
-      let three = and_parts (are_frugal_declarations (thrift_of p) b.declarations) (are_frugal (thrift_of p) b.statements) two.0 in
+      let two = and_parts (are_frugal_declarations judged b.declarations && are_frugal judged b.statements) (are_frugal_handlers judged b.handlers) is in
+      let three = and_parts (are_frugal_declarations judged b.declarations) (are_frugal judged b.statements) two.0 in
       rw (declarations_thrifty b.declarations three.0, stmts_thrifty b.statements three.1, handlers_thrifty b.handlers two.1) refl
 
 -- The declarations, the statements and the handlers of such a body are so.
-pub thrifty_parts : (allowance : Allowance) (b : BodyForm) → is_thrifty_body allowance b ≡ true
-    → (are_thrifty_declarations allowance b.declarations ≡ true) × (are_thrifty allowance b.statements ≡ true) × (are_thrifty_handlers allowance b.handlers ≡ true)
-thrifty_parts allowance b is =
+pub thrifty_parts : (allowance : Allowance) (own : Bool) (b : BodyForm) → is_thrifty_body allowance own b ≡ true
+    → (are_thrifty_declarations allowance b.declarations ≡ true) × (are_thrifty allowance own b.statements ≡ true) × (are_thrifty_handlers allowance own b.handlers ≡ true)
+thrifty_parts allowance own b is =
     let three = and_parts _ _ is in
     let two = and_parts _ _ three.0 in
     (two.0, two.1, three.1)
 
+-- What a body may do that is called, that of an operation may do, too.
+module _ (allowance : Allowance) where
+  -- So it is with two of its parts.
+  both_more : {a b c d : Bool} → (a ≡ true → c ≡ true) → (b ≡ true → d ≡ true) → (a && b) ≡ true → (c && d) ≡ true
+  both_more {a = a} {b = b} first second is =
+      let both = and_parts a b is in
+      and_from _ _ (first both.0) (second both.1)
+
+  -- No record with controlled parts is assigned where that is called.
+  assigned_more : (t : ℕ) (bare may : Bool) → may ≡ may_assign allowance false t → (bare || may) ≡ true → bare ≡ true
+  assigned_more t true may same is = refl
+  assigned_more t false may same is = absurd (none allowance.treats_parts (sym same ∙ is))
+    where
+      none : (treats_parts : Bool) → (treats_parts && false && is_inert allowance t) ≡ true → ⊥
+      none true is' = cc is'
+      none false is' = cc is'
+
+  pub bare_assigned : (t : ℕ) → (not (is_some (finalization_of allowance.types t)) || may_assign allowance false t) ≡ true
+      → not (is_some (finalization_of allowance.types t)) ≡ true
+  bare_assigned t is = assigned_more t (not (is_some (finalization_of allowance.types t))) (may_assign allowance false t) refl is
+
+  mutual
+    stmt_more : (f : StmtForm) → is_thrifty_stmt allowance false f ≡ true → is_thrifty_stmt allowance true f ≡ true
+    stmt_more skips is = is
+    stmt_more (assigns target right) is = is
+    stmt_more (assigns_record target items) is =
+        or_left (not (is_some (finalization_of allowance.types target.record_type))) (may_assign allowance true target.record_type) (bare_assigned target.record_type is)
+    stmt_more (frees access path) is = is
+    stmt_more (gets target) is = is
+    stmt_more (writes e) is = is
+    stmt_more (writes_text text) is = is
+    stmt_more (chooses branches) is = branches_more branches is
+    stmt_more (repeats condition fs spot) is = stmts_more fs is
+    stmt_more (counts x low high fs spot) is = stmts_more fs is
+    stmt_more (exits condition spot) is = is
+    stmt_more (calls procedure actuals) is = is
+    stmt_more (returns spot) is = is
+    stmt_more (raises e) is = is
+    stmt_more (encloses ds fs hs) is = both_more (both_more (λ declared. declared) (stmts_more fs)) (handlers_more hs) is
+
+    stmts_more : (fs : StmtsForm) → are_thrifty allowance false fs ≡ true → are_thrifty allowance true fs ≡ true
+    stmts_more no_stmts is = is
+    stmts_more (a_stmt f fs) is = both_more (stmt_more f) (stmts_more fs) is
+
+    branches_more : (branches : BranchesForm) → are_thrifty_branches allowance false branches ≡ true → are_thrifty_branches allowance true branches ≡ true
+    branches_more (otherwise fs) is = stmts_more fs is
+    branches_more (a_branch e fs branches) is = both_more (stmts_more fs) (branches_more branches) is
+
+    handlers_more : (hs : HandlersForm) → are_thrifty_handlers allowance false hs ≡ true → are_thrifty_handlers allowance true hs ≡ true
+    handlers_more no_handlers is = is
+    handlers_more (a_handler choices fs hs) is = both_more (stmts_more fs) (handlers_more hs) is
+
+  pub body_more : (b : BodyForm) → is_thrifty_body allowance false b ≡ true → (own : Bool) → is_thrifty_body allowance own b ≡ true
+  body_more b is false = is
+  body_more b is true = both_more (both_more (λ declared. declared) (stmts_more b.statements)) (handlers_more b.handlers) is
+
 -- What a body goes by that calls nothing, declares variables alone, and neither allocates nor frees an object with controlled parts.
 abbrev pub simple_allowance : List TypeForm → Allowance
-simple_allowance types = record { types = types; treats_parts = false; objects = false; procedures = [] }
+simple_allowance types = record { types = types; inert = []; treats_parts = false; objects = false; procedures = [] }

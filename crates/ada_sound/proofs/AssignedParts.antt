@@ -126,12 +126,12 @@ own_record t (Some (access_to name designated pool)) f is = absurd (cc is)
 own_record t (Some (object_of record_type)) f is = absurd (cc is)
 
 -- A record of the type of a number is found by walking from a record type into declared components.
-record Found (types : List TypeDefinition) (t of : ℕ) : Type 0 where
-  record_type : ℕ
-  first : ℕ
-  part : ℕ
-  numbered : number_of types (Some record_type) ≡ Some of
-  walk : Walks (map type_form types) t first part record_type
+pub record Found (types : List TypeDefinition) (t of : ℕ) : Type 0 where
+  pub record_type : ℕ
+  pub first : ℕ
+  pub part : ℕ
+  pub numbered : number_of types (Some record_type) ≡ Some of
+  pub walk : Walks (map type_form types) t first part record_type
 
 module _ (program : Program) (well : IsWellFormed (program_form program)) where
   abbrev p : ProgramForm
@@ -166,7 +166,7 @@ module _ (program : Program) (well : IsWellFormed (program_form program)) where
       }
 
   -- So is all that lies in a record of the type.
-  found_in : (t of : ℕ) → Inside forms t of → Found types t of
+  pub found_in : (t of : ℕ) → Inside forms t of → Found types t of
   found_in t _ (itself n is) = record { record_type = t; first = 0; part = 0; numbered = same_number types t ∙ is; walk = ends }
   found_in t _ (within of part i c inside at) =
       found_within t of part i c (found_in t of inside)

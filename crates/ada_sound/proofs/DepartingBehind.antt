@@ -38,7 +38,7 @@ use Rattle.ada_untouched.specs.Untouched.{Untouched}
 use Rattle.ada_sound.proofs.Ahead.{ahead_in}
 use Rattle.ada_sound.proofs.Departing.{IsGoing, ending}
 use Rattle.ada_sound.proofs.Allowance.{Allowance}
-use Rattle.ada_sound.proofs.FrugalControl.{Frugal, FrugalLeads, FrugalLeaves, FrugalOperated, MayLeave}
+use Rattle.ada_sound.proofs.FrugalControl.{Frugal, FrugalBegins, FrugalLeads, FrugalLeaves, FrugalOperated, MayLeave}
 use Rattle.ada_sound.proofs.Invariant.{ConfinesBy, Control, EndsTo, IsNewest, Known, ReadyIn, TreatsBy, innermost}
 use Rattle.ada_sound.proofs.Items.{Counted, HasItem, Houses, has_after, houses_pool, houses_type, newest_is}
 use Rattle.ada_sound.proofs.Operating.{Comes, IsCalm, Sight}
@@ -70,6 +70,8 @@ module _ (p : ProgramForm) (shuns : ℕ → Bool) (apart : Apart) (ghosts : Id �
   left_behind procedure (Leaves mode) k (m ∷ own) suspended goes_on left = (own, left.2.1)
   left_behind procedure (frame.Declares x) k [] suspended goes_on left = absurd left.2
   left_behind procedure (frame.Declares x) k (m ∷ own) suspended goes_on left = (m ∷ own, left.2)
+  left_behind procedure (frame.DeclaresRecord x t) k [] suspended goes_on left = absurd left.2
+  left_behind procedure (frame.DeclaresRecord x t) k (m ∷ own) suspended goes_on left = (m ∷ own, left.2)
   left_behind procedure f k own suspended goes_on left = (own, left.2)
 
   -- Where an operation runs behind that end, one runs in front of it.
@@ -175,6 +177,9 @@ module _ (p : ProgramForm) (shuns : ℕ → Bool) (apart : Apart) (ghosts : Id �
       leads_same among (frame.Declares x ∷ k) [] procedure own suspended q left = absurd q
       leads_same among (frame.Declares x ∷ k) (m ∷ ms) procedure own suspended q left =
           let further = left_behind procedure (frame.Declares x) k own suspended refl left in leads_same among k (m ∷ ms) procedure further.0 suspended q.1 further.1
+      leads_same among (frame.DeclaresRecord x t ∷ k) [] procedure own suspended q left = absurd q
+      leads_same among (frame.DeclaresRecord x t ∷ k) (m ∷ ms) procedure own suspended q left =
+          let further = left_behind procedure (frame.DeclaresRecord x t) k own suspended refl left in leads_same among k (m ∷ ms) procedure further.0 suspended q.1 further.1
       leads_same among (f ∷ k) ms procedure own suspended q left =
           let further = left_behind procedure f k own suspended refl left in leads_same among k ms procedure further.0 suspended q.1 further.1
 
@@ -203,18 +208,29 @@ module _ (p : ProgramForm) (shuns : ℕ → Bool) (apart : Apart) (ghosts : Id �
           leads_same vs k ms procedure own suspended q left.2
       operated_same among (f ∷ k) ms procedure own suspended q left = absurd q
 
+    -- Where a new object begins first, or a record is assigned to.
+    begins_same :
+        (among : List Value) (k : Control) (ms : List Master) (procedure : Option ℕ) (own : List Master) (suspended : List (Activation Value))
+        → FrugalBegins frugal back among k ms → Left procedure k own suspended → back ≡ behind
+    begins_same among [] ms procedure own suspended q left = absurd q
+    begins_same among (frame.Treats v (begins by done) tasks ∷ k) ms procedure own suspended q left = leads_same among k ms procedure own suspended q.1 left.2
+    begins_same among (frame.Treats v (ends cause) tasks ∷ k) ms procedure own suspended q left = begins_same among k ms procedure own suspended q.1 left.2
+    begins_same among (frame.Awaits v by done of part tasks ∷ k) ms procedure own suspended q left = leads_same among k ms procedure own suspended q.1 left.2
+    begins_same among (frame.Copies first t ∷ k) ms procedure own suspended q left =
+        let further = left_behind procedure (frame.Copies first t) k own suspended refl left in begins_same among k ms procedure further.0 suspended q further.1
+    begins_same among (frame.StoresRecord v first count ∷ k) ms procedure own suspended (inl q) left =
+        let further = left_behind procedure (frame.StoresRecord v first count) k own suspended refl left in begins_same among k ms procedure further.0 suspended q further.1
+    begins_same among (frame.StoresRecord v first count ∷ k) ms procedure own suspended (inr q) left =
+        let further = left_behind procedure (frame.StoresRecord v first count) k own suspended refl left in leads_same among k ms procedure further.0 suspended q further.1
+    begins_same among (f ∷ k) ms procedure own suspended q left = absurd q
+
     -- Wherever they are.
     pub same_end :
         (among : List Value) (mode : Mode) (k : Control) (ms : List Master) (procedure : Option ℕ) (own : List Master) (suspended : List (Activation Value))
         → Frugal frugal back among mode k ms → Left procedure k own suspended → back ≡ behind
     same_end among mode k ms procedure own suspended (inl q) left = leads_same among k ms procedure own suspended q left
     same_end among mode k ms procedure own suspended (inr (inl (may, leaving))) left = leaves_same among k ms procedure own suspended leaving left
-    same_end among mode [] ms procedure own suspended (inr (inr (may, beginning))) left = absurd beginning
-    same_end among mode (frame.Treats v (begins by done) tasks ∷ k) ms procedure own suspended (inr (inr (may, beginning))) left =
-        leads_same among k ms procedure own suspended beginning.1 left.2
-    same_end among mode (frame.Awaits v by done of part tasks ∷ k) ms procedure own suspended (inr (inr (may, beginning))) left =
-        leads_same among k ms procedure own suspended beginning.1 left.2
-    same_end among mode (f ∷ k) ms procedure own suspended (inr (inr (may, beginning))) left = absurd beginning
+    same_end among mode k ms procedure own suspended (inr (inr (may, beginning))) left = begins_same among k ms procedure own suspended beginning left
 
 -- Each of these masters owns what such bodies may own.
 abbrev pub AllOwnedApart : Apart → (lower own : List Master) → Type 0
@@ -236,6 +252,8 @@ module _ (p : ProgramForm) (shuns : ℕ → Bool) (apart : Apart) (ghosts : Id �
   left_owned procedure (Leaves mode ∷ k) (m ∷ own) suspended left = (left.2.0, left_owned procedure k own suspended left.2.1)
   left_owned procedure (frame.Declares x ∷ k) [] suspended left = tt
   left_owned procedure (frame.Declares x ∷ k) (m ∷ own) suspended left = left_owned procedure k (m ∷ own) suspended left.2
+  left_owned procedure (frame.DeclaresRecord x t ∷ k) [] suspended left = tt
+  left_owned procedure (frame.DeclaresRecord x t ∷ k) (m ∷ own) suspended left = left_owned procedure k (m ∷ own) suspended left.2
   left_owned procedure (f ∷ k) own suspended left = left_owned procedure k own suspended left.2
 
   -- Where a part begins, that is in one of these masters.

@@ -1,7 +1,7 @@
 -- A frugal body (7.6, 7.6.1, 13.11.2) creates no collection, and what the record objects name that it declares lies in collections of the main procedure
 -- (3.8, 3.10.2); so it is with those that it calls (6.4): it nests wherever it is called while these are open.
 
-use Rattle.std.proofs.Common.{◌≡◌, ℕ, zero, suc, ◌==◌, Bool, true, false, List, [], ◌∷◌, ◌++◌, refl}
+use Rattle.std.proofs.Common.{◌≡◌, ℕ, zero, suc, ◌==◌, Bool, true, false, ◌&&◌, List, [], ◌∷◌, ◌++◌, refl}
 use Rattle.std.specs.List.{list_all, slice_get, slice_index_or}
 use Rattle.std.specs.Prelude.{Option, Some, None}
 use Rattle.std.proofs.lemmas.Bool.{and_from, and_parts, or_right}
@@ -11,7 +11,8 @@ use Rattle.ada_program.specs.Form.{StmtForm, skips, assigns, assigns_record, fre
 use Rattle.ada_program.specs.Nested.{Callees, collected, record_objects, is_one_of, kind_is_open, are_open, record_nests, part_nests, call_nests, statement_nests, statements_nest, branches_nest, handlers_nest, body_nests, callees_from, callees_of}
 use Rattle.ada_program.specs.ProgramForm.{TypeForm, BodyForm, ProgramForm}
 use Rattle.ada_program.specs.WellFormed.{reached_components}
-use Rattle.ada_quiet.specs.Frugal.{allocates_frugally, is_frugal_declaration, are_frugal_declarations, is_frugal_stmt, are_frugal, are_frugal_branches, are_frugal_handlers, is_frugal_body, Thrift, frugal_from, frugal_procedures}
+use Rattle.ada_quiet.specs.Calm.{inert_types}
+use Rattle.ada_quiet.specs.Frugal.{allocates_frugally, is_bare_initial, is_frugal_declaration, are_frugal_declarations, is_frugal_stmt, are_frugal, are_frugal_branches, are_frugal_handlers, is_frugal_body, Thrift, frugal_from, frugal_procedures}
 
 -- All these collections are open.
 abbrev pub HasAll : (opened around : List ℕ) → Type 0
@@ -62,10 +63,14 @@ records_open frugal there all (declares_record x t None ∷ ds) is =
     let both = and_parts (record_nests frugal.types frugal.outermost t) (are_frugal_declarations frugal ds) is in
     and_from (record_nests frugal.types there t) (list_all (record_nests frugal.types there) (record_objects ds))
     (known_more frugal.outermost there all (reached_components frugal.types t) both.0) (records_open frugal there all ds both.1)
-records_open frugal there all (declares_record x t (Some items) ∷ ds) is = absurd (cc is)
+records_open frugal there all (declares_record x t (Some items) ∷ ds) is =
+    let both = and_parts (record_nests frugal.types frugal.outermost t && is_bare_initial frugal.types t items) (are_frugal_declarations frugal ds) is in
+    let nests = and_parts (record_nests frugal.types frugal.outermost t) (is_bare_initial frugal.types t items) both.0 in
+    and_from (record_nests frugal.types there t) (list_all (record_nests frugal.types there) (record_objects ds))
+    (known_more frugal.outermost there all (reached_components frugal.types t) nests.0) (records_open frugal there all ds both.1)
 
 -- More collections may be open.
-more_open : (opened more around : List ℕ) → HasAll opened around → HasAll opened (more ++ around)
+pub more_open : (opened more around : List ℕ) → HasAll opened around → HasAll opened (more ++ around)
 more_open opened [] around all = all
 more_open opened (u ∷ more) around all = λ t is. or_right (u == t) (is_one_of (more ++ around) t) (more_open opened more around all t is)
 
@@ -89,7 +94,7 @@ step_nests opened (m ∷ ms) (n ∷ ns) step zero is around all = step.0 is arou
 step_nests opened (m ∷ ms) (n ∷ ns) step (suc number) is around all = step_nests opened ms ns step.1 number is around all
 
 module _ (frugal : Thrift) where
-  part_is : (around : List ℕ) → HasAll frugal.outermost around → (ds : List DeclarationForm) → are_frugal_declarations frugal ds ≡ true
+  pub part_is : (around : List ℕ) → HasAll frugal.outermost around → (ds : List DeclarationForm) → are_frugal_declarations frugal ds ≡ true
       → part_nests frugal.types around ds ≡ true
   part_is around all ds is = rw (none_collected frugal ds is) (records_open frugal around all ds is)
 
@@ -157,7 +162,7 @@ all_step : (types : List TypeForm) (opened : List ℕ) (bodies : List BodyForm) 
     → InStep opened (frugal_from types opened allowance bodies) (callees_from types nests bodies)
 all_step types opened [] allowance nests step = step
 all_step types opened (b ∷ bodies) allowance nests step =
-    let frugal : Thrift = record { types = types; outermost = opened; procedures = allowance } in
+    let frugal : Thrift = record { types = types; outermost = opened; inert = inert_types types; procedures = allowance; operation = false } in
     all_step types opened bodies (allowance ++ is_frugal_body frugal b ∷ []) (nests ++ body_nests types nests b ∷ [])
     (one_more opened allowance nests (is_frugal_body frugal b) (body_nests types nests b) step
     (λ is around all. body_is frugal nests (step_nests opened allowance nests step) b around all is))
@@ -171,7 +176,7 @@ frugal_nests p number is around all =
 
 -- What a body goes by that calls nothing, and declares no record object with components of access types.
 abbrev pub calling_none : List TypeForm → Thrift
-calling_none types = record { types = types; outermost = []; procedures = [] }
+calling_none types = record { types = types; outermost = []; inert = []; procedures = []; operation = false }
 
 -- Such a body nests whatever is open, and whatever calls create.
 pub lone_nests : (types : List TypeForm) (callees : Callees) (b : BodyForm) (around : List ℕ) → is_frugal_body (calling_none types) b ≡ true

@@ -1,29 +1,35 @@
 -- The body of an operation runs that touches storage, a frugal one (7.6, 7.6.1, 13.11.2), or one that it calls (6.4), or the operation of an object that it
--- frees, allocates or declares: what is left before its end. Nothing in that is adjusted. Where bodies may allocate and free objects with controlled parts,
--- these are initialized first, and finalized, also where an exception comes out of an Initialize; and where they may declare record objects, these are
--- finalized where their master is left.
+-- frees, allocates or declares: what is left before its end. Where bodies may allocate and free objects with controlled parts, these are initialized first, and
+-- finalized, also where an exception comes out of an Initialize; and where they may declare record objects, these are finalized where their master is left.
+-- The body of an operation itself may assign to inert records (5.2): these alone are adjusted.
 
-use Rattle.std.proofs.Common.{◌≡◌, ℕ, suc, ◌≤◌, Bool, true, false, List, [], ◌∷◌, ◌++◌, length, refl, sym, ap, subst, ◌⊎◌, inl, inr, arith}
+use Rattle.std.proofs.Common.{◌≡◌, ℕ, suc, ◌≤◌, Bool, true, false, ◌&&◌, List, [], ◌∷◌, ◌++◌, length, refl, sym, ap, subst, ◌⊎◌, inl, inr, arith}
+use Rattle.std.specs.Prelude.{◌||◌}
+use Rattle.std.proofs.lemmas.Bool.{and_parts}
+use Rattle.ada_program.specs.declared.program.TypeDefinition.{TypeDefinition}
 use Rattle.ada_program.specs.Form.{ActualForm}
-use Rattle.ada_finalized.specs.Law.{NoOperationRunsOn, finalized_before}
+use Rattle.ada_finalized.specs.Law.{NoOperationRunsOn, finalized_before, waits_for_operation}
 use Rattle.ada_program.specs.ProgramForm.{BodyForm, ProgramForm}
 use Rattle.ada_meaning.specs.declared.state.Value.{Value}
 use Rattle.ada_meaning.specs.declared.state.Mode.{Mode}
 use Rattle.ada_meaning.specs.declared.state.Mode.TheVariants.{Running, Raising, Exiting, Returning}
 use Rattle.ada_meaning.specs.declared.event.Birth.{Birth}
+use Rattle.ada_meaning.specs.declared.event.Cause.{Cause}
 use Rattle.ada_meaning.specs.declared.event.Birth.TheVariants.{Creation, Copy, Adjustment}
 use Rattle.ada_meaning.specs.declared.event.Cause.TheVariants.{Leaving, Freeing, Assigning, Undoing}
-use Rattle.ada_meaning.specs.Frame.{Frame, is_return, Elaborates, Does, Decides, Repeats, Turns, Ranges, Counts, Exits, Handles, Closes, Leaves, Calls, Returns, Evaluates, Computes, Follows, TestsNull, Refers, RefersIn, Opens, OpensIn, Continues, Applies, AppliesAlone, Stores, Targets, StoresIn, TargetsRecord, StoresRecord, Receives, Fills, Copies, Creates, FreesIn, Declares, Writes, Ends, GivesBack, Resumes, Clears, ClearsIn, Treatment, begins, ends}
+use Rattle.ada_meaning.specs.Frame.{Frame, is_return, Elaborates, Does, Decides, Repeats, Turns, Ranges, Counts, Exits, Handles, Closes, Leaves, Calls, Returns, Evaluates, Computes, Follows, TestsNull, Refers, RefersIn, Opens, OpensIn, Continues, Applies, AppliesAlone, Stores, Targets, StoresIn, TargetsRecord, StoresRecord, Assigns, Receives, Fills, Copies, Creates, FreesIn, Declares, DeclaresRecord, Writes, Ends, GivesBack, Resumes, Clears, ClearsIn, Treatment, begins, ends}
 use Rattle.ada_meaning.specs.Frame as frame
 use Rattle.ada_meaning.specs.State.{Owned, declared, collection, record_object, storage_pool, Item, Master}
-use Rattle.ada_meaning.specs.Step.{operating, treating, halts, moves, tells, asks, picks}
+use Rattle.ada_meaning.specs.Step.{operating, record_tasks, treating, halts, moves, tells, asks, picks}
 use Rattle.ada_meaning.specs.Named.{State, Next, named}
+use Rattle.ada_parts.specs.declared.tasks.Direction.{Direction}
 use Rattle.ada_parts.specs.Task.{Task}
 use Rattle.ada_parts.specs.Part.{Part}
 use Rattle.ada_typed.proofs.Control.{is_operation}
 use Rattle.ada_typed.proofs.Kept.{is_treatment}
 use Rattle.ada_sound.proofs.Invariant.{Control, IsAwaited}
-use Rattle.ada_sound.proofs.Allowance.{Allowance, may_treat, may_create, allocates_thriftily, are_thrifty_declarations, are_thrifty, are_thrifty_branches, are_thrifty_handlers, is_thrifty_body, thrifty_parts}
+use Rattle.ada_sound.proofs.Allowance.{Allowance, is_inert, may_assign, may_treat, may_create, may_fill, allocates_thriftily, are_thrifty_declarations, are_thrifty, are_thrifty_branches, are_thrifty_handlers, is_thrifty_body, thrifty_parts}
+use Rattle.ada_sound.proofs.InsideRecords.{TasksInside}
 
 -- An object ends in a body that frees it (13.11.2), or out of whose initialization an exception comes (7.6.1).
 abbrev pub IsEnded : Treatment → Type 0
@@ -59,11 +65,88 @@ abbrev pub AreOwnedBy : Allowance → List Item → Type 0
 AreOwnedBy allowance [] = Unit {0}
 AreOwnedBy allowance (i ∷ is) = IsOwnedBy allowance i.owned × AreOwnedBy allowance is
 
--- A new object begins first.
+-- An operation waits first.
+abbrev pub waits_first : Control → Bool
+waits_first [] = false
+waits_first (f ∷ k) = waits_for_operation f
+
+-- The body that runs is that of an operation itself: one waits behind its end. Else it is one that is called.
+abbrev pub own_in : Control → Bool
+own_in [] = false
+own_in (Returns actuals references ∷ k) = waits_first k
+own_in (f ∷ k) = own_in k
+
+pub awaited_first : (k : Control) → IsAwaited k → waits_first k ≡ true
+awaited_first [] awaited = absurd awaited
+awaited_first (frame.Awaits v by done of part tasks ∷ k) awaited = refl
+awaited_first (frame.Confines ∷ k) awaited = refl
+awaited_first (f ∷ k) awaited = absurd awaited
+
+-- So it is where an object is treated before.
+pub own_treating : (v : Value) (treatment : Treatment) (tasks : List Task) (k : Control) → own_in (treating v treatment tasks k) ≡ own_in k
+own_treating v treatment [] k = refl
+own_treating v treatment (task ∷ tasks) k = refl
+
+-- A part of a record is adjusted (7.6).
+abbrev pub IsAdjusted : Birth → Type 0
+IsAdjusted Creation = ⊥
+IsAdjusted Copy = ⊥
+IsAdjusted (Adjustment number) = Unit {0}
+
+-- One is finalized that is assigned to (5.2).
+abbrev pub IsAssigned : Cause → Type 0
+IsAssigned (Leaving m item) = ⊥
+IsAssigned (Freeing number) = ⊥
+IsAssigned (Assigning number) = Unit {0}
+IsAssigned (Undoing number) = ⊥
+
+-- Another one is copied next.
+abbrev pub copies_first : Control → Bool
+copies_first [] = false
+copies_first (Copies first t ∷ k) = true
+copies_first (f ∷ k) = false
+
+-- All that is left to be treated is of a record of an inert type.
+abbrev pub AreInert : Allowance → List Task → Type 0
+AreInert frugal tasks = (t : ℕ) × (is_inert frugal t ≡ true) × TasksInside frugal.types t tasks
+
+-- The body of an operation itself assigns to an inert record (5.2).
+abbrev pub AssignsThere : Allowance → (tasks : List Task) → Control → Type 0
+AssignsThere frugal tasks k = (frugal.treats_parts ≡ true) × (own_in k ≡ true) × AreInert frugal tasks
+
+-- All that is to be done for a record of a type is of such a record.
+abbrev pub RecordIsInside : Allowance → List TypeDefinition → Type 0
+RecordIsInside frugal tds = (t : ℕ) (direction : Direction) (first : ℕ) → TasksInside frugal.types t (record_tasks tds t direction first)
+
+-- What it takes to assign to one.
+pub assigned_parts : (frugal : Allowance) (own : Bool) (t : ℕ) → may_assign frugal own t ≡ true
+    → (frugal.treats_parts ≡ true) × (own ≡ true) × (is_inert frugal t ≡ true)
+assigned_parts frugal own t may =
+    let two = and_parts (frugal.treats_parts && own) (is_inert frugal t) may in
+    let one = and_parts frugal.treats_parts own two.0 in
+    (one.0, one.1, two.1)
+
+-- A record that is assigned has no controlled parts, or that may be assigned.
+pub assigned_with : (parts bare may : Bool) → (bare ≡ true → parts ≡ false) → (bare || may) ≡ true → parts ≡ true → may ≡ true
+assigned_with parts true may none is parted = absurd (let bare = none refl in cc (bare, parted))
+assigned_with parts false may none is parted = is
+
+-- That is adjusted behind it (7.6),
+abbrev pub AdjustsThere : Allowance → Birth → (tasks : List Task) → Control → Type 0
+AdjustsThere frugal by tasks k = IsAdjusted by × AssignsThere frugal tasks k
+
+-- and finalized before another one is copied to it.
+abbrev pub EndsAssigned : Allowance → Cause → (tasks : List Task) → Control → Type 0
+EndsAssigned frugal cause tasks k = IsAssigned cause × (copies_first k ≡ true) × AssignsThere frugal tasks k
+
+-- A new object begins first, or a record is adjusted, or that comes next behind what is copied to it.
 abbrev pub begins_first : Control → Bool
 begins_first [] = false
 begins_first (frame.Treats v (begins by done) tasks ∷ k) = true
+begins_first (frame.Treats v (ends cause) tasks ∷ k) = begins_first k
 begins_first (frame.Awaits v by done of part tasks ∷ k) = true
+begins_first (Copies first t ∷ k) = begins_first k
+begins_first (StoresRecord v first count ∷ k) = begins_first k
 begins_first (f ∷ k) = false
 
 -- Where a new object begins, that goes on, or an exception comes out of it.
@@ -87,48 +170,50 @@ operated_in (frame.Confines ∷ k) = finalized_before k ∷ []
 operated_in (f ∷ k) = []
 
 -- What a frame of such a body does, or of one that it calls: what it allocates and frees has no controlled parts, unless the body may treat others. While a
--- master is left, or a new object begins, that is the first frame: below.
-abbrev pub FrugalFrame : Allowance → Frame Value → Type 0
-FrugalFrame frugal (Elaborates ds fs hs) = (are_thrifty_declarations frugal ds ≡ true) × (are_thrifty frugal fs ≡ true) × (are_thrifty_handlers frugal hs ≡ true)
-FrugalFrame frugal (Does fs) = (are_thrifty frugal fs ≡ true)
-FrugalFrame frugal (Decides fs branches) = (are_thrifty frugal fs ≡ true) × (are_thrifty_branches frugal branches ≡ true)
-FrugalFrame frugal (Repeats condition fs) = (are_thrifty frugal fs ≡ true)
-FrugalFrame frugal (Turns e fs) = (are_thrifty frugal fs ≡ true)
-FrugalFrame frugal (Ranges x fs) = (are_thrifty frugal fs ≡ true)
-FrugalFrame frugal (Counts x value last fs) = (are_thrifty frugal fs ≡ true)
-FrugalFrame frugal Exits = Unit {0}
-FrugalFrame frugal (Handles hs) = (are_thrifty_handlers frugal hs ≡ true)
-FrugalFrame frugal Closes = Unit {0}
-FrugalFrame frugal (Calls number b actuals) = (is_thrifty_body frugal b ≡ true)
-FrugalFrame frugal (Evaluates right) = (allocates_thriftily frugal right ≡ true)
-FrugalFrame frugal (Computes e) = Unit {0}
-FrugalFrame frugal (Follows cs) = Unit {0}
-FrugalFrame frugal (TestsNull equal) = Unit {0}
-FrugalFrame frugal (Refers path) = Unit {0}
-FrugalFrame frugal (RefersIn place t) = Unit {0}
-FrugalFrame frugal (Opens path) = Unit {0}
-FrugalFrame frugal (OpensIn c) = Unit {0}
-FrugalFrame frugal (Continues links) = Unit {0}
-FrugalFrame frugal (Applies operator) = Unit {0}
-FrugalFrame frugal (AppliesAlone operator) = Unit {0}
-FrugalFrame frugal (Stores x) = Unit {0}
-FrugalFrame frugal (Targets c right) = (allocates_thriftily frugal right ≡ true)
-FrugalFrame frugal (StoresIn v c) = Unit {0}
-FrugalFrame frugal (TargetsRecord first t items) = Unit {0}
-FrugalFrame frugal (StoresRecord v first count) = Unit {0}
-FrugalFrame frugal (Receives c) = Unit {0}
-FrugalFrame frugal (Fills items) = Unit {0}
-FrugalFrame frugal (Copies first t) = Unit {0}
-FrugalFrame frugal (Creates access count) = (may_create frugal access ≡ true)
-FrugalFrame frugal (FreesIn access c) = (may_treat frugal access ≡ true)
-FrugalFrame frugal (Declares x) = Unit {0}
-FrugalFrame frugal Writes = Unit {0}
-FrugalFrame frugal (Ends v) = Unit {0}
-FrugalFrame frugal (GivesBack v cause pool) = Unit {0}
-FrugalFrame frugal (Resumes mode) = Unit {0}
-FrugalFrame frugal (Clears x) = Unit {0}
-FrugalFrame frugal (ClearsIn v c) = Unit {0}
-FrugalFrame frugal f = ⊥
+-- master is left, or a new object begins, that is the first frame: below. The body of an operation itself may assign to inert records.
+abbrev pub FrugalFrame : Allowance → (own : Bool) → Frame Value → Type 0
+FrugalFrame frugal own (Elaborates ds fs hs) = (are_thrifty_declarations frugal ds ≡ true) × (are_thrifty frugal own fs ≡ true) × (are_thrifty_handlers frugal own hs ≡ true)
+FrugalFrame frugal own (Does fs) = (are_thrifty frugal own fs ≡ true)
+FrugalFrame frugal own (Decides fs branches) = (are_thrifty frugal own fs ≡ true) × (are_thrifty_branches frugal own branches ≡ true)
+FrugalFrame frugal own (Repeats condition fs) = (are_thrifty frugal own fs ≡ true)
+FrugalFrame frugal own (Turns e fs) = (are_thrifty frugal own fs ≡ true)
+FrugalFrame frugal own (Ranges x fs) = (are_thrifty frugal own fs ≡ true)
+FrugalFrame frugal own (Counts x value last fs) = (are_thrifty frugal own fs ≡ true)
+FrugalFrame frugal own Exits = Unit {0}
+FrugalFrame frugal own (Handles hs) = (are_thrifty_handlers frugal own hs ≡ true)
+FrugalFrame frugal own Closes = Unit {0}
+FrugalFrame frugal own (Calls number b actuals) = (is_thrifty_body frugal false b ≡ true)
+FrugalFrame frugal own (Evaluates right) = (allocates_thriftily frugal right ≡ true)
+FrugalFrame frugal own (Computes e) = Unit {0}
+FrugalFrame frugal own (Follows cs) = Unit {0}
+FrugalFrame frugal own (TestsNull equal) = Unit {0}
+FrugalFrame frugal own (Refers path) = Unit {0}
+FrugalFrame frugal own (RefersIn place t) = Unit {0}
+FrugalFrame frugal own (Opens path) = Unit {0}
+FrugalFrame frugal own (OpensIn c) = Unit {0}
+FrugalFrame frugal own (Continues links) = Unit {0}
+FrugalFrame frugal own (Applies operator) = Unit {0}
+FrugalFrame frugal own (AppliesAlone operator) = Unit {0}
+FrugalFrame frugal own (Stores x) = Unit {0}
+FrugalFrame frugal own (Targets c right) = (allocates_thriftily frugal right ≡ true)
+FrugalFrame frugal own (StoresIn v c) = Unit {0}
+FrugalFrame frugal own (TargetsRecord first t items) = Unit {0}
+FrugalFrame frugal own (StoresRecord v first count) = Unit {0}
+FrugalFrame frugal own (Assigns t) = (may_assign frugal own t ≡ true)
+FrugalFrame frugal own (Receives c) = Unit {0}
+FrugalFrame frugal own (Fills items) = Unit {0}
+FrugalFrame frugal own (Copies first t) = Unit {0}
+FrugalFrame frugal own (Creates access count) = (may_create frugal access ≡ true)
+FrugalFrame frugal own (FreesIn access c) = (may_treat frugal access ≡ true)
+FrugalFrame frugal own (Declares x) = Unit {0}
+FrugalFrame frugal own (DeclaresRecord x t) = (may_fill frugal t ≡ true)
+FrugalFrame frugal own Writes = Unit {0}
+FrugalFrame frugal own (Ends v) = Unit {0}
+FrugalFrame frugal own (GivesBack v cause pool) = Unit {0}
+FrugalFrame frugal own (Resumes mode) = Unit {0}
+FrugalFrame frugal own (Clears x) = Unit {0}
+FrugalFrame frugal own (ClearsIn v c) = Unit {0}
+FrugalFrame frugal own f = ⊥
 
 -- An object is finalized that is freed or undone, ceases to exist behind that, and no operation of it runs there.
 abbrev pub EndsThere : Allowance → Value → Treatment → Control → Type 0
@@ -153,9 +238,9 @@ BeginsThere frugal v by k = (by ≡ Creation) × (frugal.objects ≡ true) × No
 -- What the frugal bodies of the program go by.
 module _ (frugal : Allowance) where
   abbrev mutual
-    -- What is left to do of the body, and of those that it calls, in these masters of their own, before this. A variable is declared in one of them. Where a
-    -- body comes to its end, that is the end of all of it, or of one that is called, or of an operation: so it is of each of these objects, one after the
-    -- other.
+    -- What is left to do of the body, and of those that it calls, in these masters of their own, before this. Variables and record objects are declared in one
+    -- of them. Where a body comes to its end, that is the end of all of it, or of one that is called, or of an operation: so it is of each of these objects,
+    -- one after the other.
     pub FrugalLeads : (behind : Control) → (among : List Value) → Control → List Master → Type 0
     FrugalLeads behind among [] ms = ⊥
     FrugalLeads behind among (Returns actuals references ∷ k) ms =
@@ -163,14 +248,16 @@ module _ (frugal : Allowance) where
         ⊎ (FrugalLeads behind among k ms ⊎ FrugalOperated behind among k ms)
     FrugalLeads behind among (Elaborates ds fs hs ∷ k) [] = ⊥
     FrugalLeads behind among (Elaborates ds fs hs ∷ k) (m ∷ ms) =
-        (AreOwnedBy frugal m.items × FrugalFrame frugal (Elaborates ds fs hs)) × FrugalLeads behind among k ms
+        (AreOwnedBy frugal m.items × FrugalFrame frugal (own_in k) (Elaborates ds fs hs)) × FrugalLeads behind among k ms
     FrugalLeads behind among (Closes ∷ k) [] = ⊥
     FrugalLeads behind among (Closes ∷ k) (m ∷ ms) = AreOwnedBy frugal m.items × FrugalLeads behind among k ms
     FrugalLeads behind among (Declares x ∷ k) [] = ⊥
-    FrugalLeads behind among (Declares x ∷ k) (m ∷ ms) = FrugalFrame frugal (Declares x) × FrugalLeads behind among k (m ∷ ms)
+    FrugalLeads behind among (Declares x ∷ k) (m ∷ ms) = FrugalFrame frugal (own_in k) (Declares x) × FrugalLeads behind among k (m ∷ ms)
+    FrugalLeads behind among (DeclaresRecord x t ∷ k) [] = ⊥
+    FrugalLeads behind among (DeclaresRecord x t ∷ k) (m ∷ ms) = FrugalFrame frugal (own_in k) (DeclaresRecord x t) × FrugalLeads behind among k (m ∷ ms)
     FrugalLeads behind among (frame.Treats v treatment tasks ∷ k) ms = EndsThere frugal v treatment k × FrugalLeads behind among k ms
     FrugalLeads behind among (frame.Confines ∷ k) ms = EndsOperation frugal k × FrugalLeads behind among k ms
-    FrugalLeads behind among (f ∷ k) ms = FrugalFrame frugal f × FrugalLeads behind among k ms
+    FrugalLeads behind among (f ∷ k) ms = FrugalFrame frugal (own_in k) f × FrugalLeads behind among k ms
 
     -- The innermost master is being left, and an object in it is finalized first, or has been; and then this is left to do.
     pub FrugalLeaves : (behind : Control) → (among : List Value) → Control → List Master → Type 0
@@ -197,10 +284,15 @@ module _ (frugal : Allowance) where
   abbrev pub FrugalReturns : (behind : Control) → (among : List Value) → Control → List Master → Type 0
   FrugalReturns behind among k ms = FrugalLeads behind among k ms ⊎ FrugalOperated behind among k ms
 
-  -- A new object begins first (4.8, 3.3.1, 7.6), and then this is left to do.
+  -- A new object begins first (4.8, 3.3.1, 7.6), and then this is left to do; or the body of an operation itself assigns to an inert record (5.2): that is
+  -- finalized, another one is copied to it, and it is adjusted.
   abbrev pub FrugalBegins : (behind : Control) → (among : List Value) → Control → List Master → Type 0
   FrugalBegins behind among [] ms = ⊥
-  FrugalBegins behind among (frame.Treats v (begins by done) tasks ∷ k) ms = BeginsThere frugal v by k × FrugalLeads behind among k ms
+  FrugalBegins behind among (frame.Treats v (begins by done) tasks ∷ k) ms =
+      (BeginsThere frugal v by k ⊎ AdjustsThere frugal by tasks k) × FrugalLeads behind among k ms
+  FrugalBegins behind among (frame.Treats v (ends cause) tasks ∷ k) ms = EndsAssigned frugal cause tasks k × FrugalBegins behind among k ms
+  FrugalBegins behind among (Copies first t ∷ k) ms = FrugalBegins behind among k ms
+  FrugalBegins behind among (StoresRecord v first count ∷ k) ms = FrugalBegins behind among k ms ⊎ FrugalLeads behind among k ms
   FrugalBegins behind among (frame.Awaits v by done of part tasks ∷ k) ms = BeginsThere frugal v by k × FrugalLeads behind among k ms
   FrugalBegins behind among (f ∷ k) ms = ⊥
 
@@ -231,30 +323,45 @@ module _ (frugal : Allowance) (lower : List Master) (behind : Control) (among : 
   GoesFrugally (asks request answered) = (granted : Bool) → Frugally (answered granted)
   GoesFrugally (picks n taken) = (i : ℕ) → suc i ≤ n → Frugally (taken i)
 
+-- What is left behind an operation waits for one.
+pub operated_awaited : (frugal : Allowance) (back : Control) (among : List Value) (k : Control) (ms : List Master) → FrugalOperated frugal back among k ms → IsAwaited k
+operated_awaited frugal back among [] ms q = absurd q
+operated_awaited frugal back among (frame.Confines ∷ k) ms q = tt
+operated_awaited frugal back among (frame.Awaits v by done of part tasks ∷ k) ms q = tt
+operated_awaited frugal back among (f ∷ k) ms q = absurd q
+
+-- What the body of an operation itself may do, it may do in front of what waits for that.
+thrifty_behind : (frugal : Allowance) (b : BodyForm) → is_thrifty_body frugal true b ≡ true → (behind : Control) → IsAwaited behind
+    → is_thrifty_body frugal (waits_first behind) b ≡ true
+thrifty_behind frugal b is behind awaited =
+    subst (λ (own : Bool). is_thrifty_body frugal own b ≡ true) (sym (awaited_first behind awaited)) is
+
 -- It begins, in a master of its own.
-pub frugal_begins : {mode : Mode} (frugal : Allowance) (b : BodyForm) → is_thrifty_body frugal b ≡ true → (behind : Control) (number : ℕ)
+pub frugal_begins : {mode : Mode} (frugal : Allowance) (b : BodyForm) → is_thrifty_body frugal true b ≡ true → (behind : Control) → IsAwaited behind → (number : ℕ)
     → Frugal frugal behind [] mode (Elaborates b.declarations b.statements b.handlers ∷ Returns [] [] ∷ behind) (record { number = number; items = [] } ∷ [])
-frugal_begins frugal b is behind number =
-    inl ((tt, thrifty_parts frugal b is), inl ((refl, refl), refl, refl, refl))
+frugal_begins frugal b is behind awaited number =
+    inl ((tt, thrifty_parts frugal (waits_first behind) b (thrifty_behind frugal b is behind awaited)), inl ((refl, refl), refl, refl, refl))
 
 -- So it does as the operation of a part of an object.
-pub frugal_starts : (frugal : Allowance) (procedure : ℕ) (b : BodyForm) → is_thrifty_body frugal b ≡ true → (reference : Value) (behind : Control) (s : State)
+pub frugal_starts :
+    (frugal : Allowance) (procedure : ℕ) (b : BodyForm) → is_thrifty_body frugal true b ≡ true → (reference : Value) (behind : Control) → IsAwaited behind → (s : State)
     → Frugally frugal s.masters behind [] (operating named procedure b reference behind s)
-frugal_starts frugal procedure b is reference behind s = record {
+frugal_starts frugal procedure b is reference behind awaited s = record {
   upper = record { number = s.next; items = [] } ∷ [];
   masters = refl;
-  frugally = frugal_begins frugal b is behind s.next;
+  frugally = frugal_begins frugal b is behind awaited s.next;
 }
 
 -- In front of what is left to do already, the body of another operation begins so.
 pub frugal_starts_inside :
-    (frugal : Allowance) (back : Control) (among : List Value) (upper lower : List Master) (procedure : ℕ) (b : BodyForm) → is_thrifty_body frugal b ≡ true
+    (frugal : Allowance) (back : Control) (among : List Value) (upper lower : List Master) (procedure : ℕ) (b : BodyForm) → is_thrifty_body frugal true b ≡ true
     → (reference : Value) (behind : Control) (s : State)
     → s.masters ≡ upper ++ lower → FrugalOperated frugal back among behind upper → Frugally frugal lower back among (operating named procedure b reference behind s)
 frugal_starts_inside frugal back among upper lower procedure b is reference behind s masters leads = record {
   upper = record { number = s.next; items = [] } ∷ upper;
   masters = ap (λ (ms : List Master). record { number = s.next; items = [] } ∷ ms) masters;
-  frugally = inl ((tt, thrifty_parts frugal b is), inr (inr leads));
+  frugally =
+      inl ((tt, thrifty_parts frugal (waits_first behind) b (thrifty_behind frugal b is behind (operated_awaited frugal back among behind upper leads))), inr (inr leads));
 }
 
 -- An object that is freed or undone is finalized before this.
@@ -313,7 +420,29 @@ pub beginning_frugal :
     (frugal : Allowance) (back : Control) (among : List Value) (v : Value) (by : Birth) (done : List Part) (tasks : List Task) (k : Control) (ms : List Master) → BeginsThere frugal v by k → FrugalLeads frugal back among k ms
     → Frugal frugal back among Running (treating v (begins by done) tasks k) ms
 beginning_frugal frugal back among v by done [] k ms beginning q = inl q
-beginning_frugal frugal back among v by done (task ∷ tasks) k ms beginning q = inr (inr (tt, (beginning, q)))
+beginning_frugal frugal back among v by done (task ∷ tasks) k ms beginning q = inr (inr (tt, (inl beginning, q)))
+
+-- An inert record that was assigned to is adjusted first, if anything is to be done for that.
+pub adjusting_frugal :
+    (frugal : Allowance) (back : Control) (among : List Value) (v : Value) (by : Birth) (done : List Part) (tasks : List Task) (k : Control) (ms : List Master) → AdjustsThere frugal by tasks k → FrugalLeads frugal back among k ms
+    → Frugal frugal back among Running (treating v (begins by done) tasks k) ms
+adjusting_frugal frugal back among v by done [] k ms adjusting q = inl q
+adjusting_frugal frugal back among v by done (task ∷ tasks) k ms adjusting q = inr (inr (tt, (inr adjusting, q)))
+
+-- So it is where its components are stored first,
+pub storing_frugal :
+    (frugal : Allowance) (back : Control) (among : List Value) (w : Value) (first count : ℕ) (v : Value) (by : Birth) (done : List Part) (tasks : List Task) (k : Control) (ms : List Master)
+    → AdjustsThere frugal by tasks k → FrugalLeads frugal back among k ms
+    → FrugalBegins frugal back among (StoresRecord w first count ∷ treating v (begins by done) tasks k) ms
+storing_frugal frugal back among w first count v by done [] k ms adjusting q = inr q
+storing_frugal frugal back among w first count v by done (task ∷ tasks) k ms adjusting q = inl (inr adjusting, q)
+
+-- and where it is finalized before.
+pub finalizing_frugal :
+    (frugal : Allowance) (back : Control) (among : List Value) (v : Value) (cause : Cause) (tasks : List Task) (k : Control) (ms : List Master) → EndsAssigned frugal cause tasks k
+    → FrugalBegins frugal back among k ms → Frugal frugal back among Running (treating v (ends cause) tasks k) ms
+finalizing_frugal frugal back among v cause [] k ms ending q = inr (inr (tt, q))
+finalizing_frugal frugal back among v cause (task ∷ tasks) k ms ending q = inr (inr (tt, (ending, q)))
 
 -- Where bodies treat no object with controlled parts, none is finalized, and no operation ends.
 pub none_treated : (frugal : Allowance) → frugal.treats_parts ≡ false → (behind : Control) (among : List Value) (f : Frame Value) (k : Control) (ms : List Master)
@@ -332,20 +461,24 @@ none_left frugal none behind among frame.Confines k ms q = let may = q.0.0 in ab
 none_left frugal none behind among (frame.Awaits v by done of part tasks) k ms q = absurd q
 none_left frugal none behind among f k ms q = (refl, refl)
 
--- Nor does an object begin first.
-pub none_beginning : (frugal : Allowance) → frugal.objects ≡ false → (behind : Control) (among : List Value) (k : Control) (ms : List Master)
-    → FrugalBegins frugal behind among k ms → ⊥
-none_beginning frugal none behind among [] ms q = q
-none_beginning frugal none behind among (frame.Treats v (begins by done) tasks ∷ k) ms ((creation, may, alone), q) = cc (none, may)
-none_beginning frugal none behind among (frame.Treats v (ends cause) tasks ∷ k) ms q = q
-none_beginning frugal none behind among (frame.Awaits v by done of part tasks ∷ k) ms ((creation, may, alone), q) = cc (none, may)
-none_beginning frugal none behind among (f ∷ k) ms q = q
+-- Nor does an object begin first, where they treat none with controlled parts, either.
+pub none_beginning : (frugal : Allowance) → frugal.treats_parts ≡ false → frugal.objects ≡ false → (behind : Control) (among : List Value) (f : Frame Value) (k : Control) (ms : List Master)
+    → FrugalBegins frugal behind among (f ∷ k) ms → (is_treatment f ≡ false) × (is_operation f ≡ false)
+none_beginning frugal none idle behind among (frame.Treats v (begins by done) tasks) k ms (inl (creation, may, alone), q) = absurd (cc (idle, may))
+none_beginning frugal none idle behind among (frame.Treats v (begins by done) tasks) k ms (inr adjusting, q) = let may = adjusting.1.0 in absurd (cc (none, may))
+none_beginning frugal none idle behind among (frame.Treats v (ends cause) tasks) k ms q = let may = q.0.2.0 in absurd (cc (none, may))
+none_beginning frugal none idle behind among (frame.Awaits v by done of part tasks) k ms ((creation, may, alone), q) = absurd (cc (idle, may))
+none_beginning frugal none idle behind among frame.Confines k ms q = absurd q
+none_beginning frugal none idle behind among f k ms q = (refl, refl)
 
 -- Where the body runs on, no object begins first.
 pub leads_first : (frugal : Allowance) (behind : Control) (among : List Value) (k : Control) (ms : List Master) → FrugalLeads frugal behind among k ms → begins_first k ≡ false
 leads_first frugal behind among [] ms q = refl
 leads_first frugal behind among (frame.Treats v (begins by done) tasks ∷ k) ms q = absurd q.0.0
+leads_first frugal behind among (frame.Treats v (ends cause) tasks ∷ k) ms q = leads_first frugal behind among k ms q.1
 leads_first frugal behind among (frame.Awaits v by done of part tasks ∷ k) ms q = absurd q.0
+leads_first frugal behind among (Copies first t ∷ k) ms q = leads_first frugal behind among k ms q.1
+leads_first frugal behind among (StoresRecord v first count ∷ k) ms q = leads_first frugal behind among k ms q.1
 leads_first frugal behind among (f ∷ k) ms q = refl
 
 mutual
@@ -361,6 +494,8 @@ mutual
   leads_longer frugal behind among (Closes ∷ k) (m ∷ ms) q = let longer = leads_longer frugal behind among k ms q.1 in omega (arith, longer)
   leads_longer frugal behind among (Declares x ∷ k) [] q = absurd q
   leads_longer frugal behind among (Declares x ∷ k) (m ∷ ms) q = let longer = leads_longer frugal behind among k (m ∷ ms) q.1 in omega (arith, longer)
+  leads_longer frugal behind among (DeclaresRecord x t ∷ k) [] q = absurd q
+  leads_longer frugal behind among (DeclaresRecord x t ∷ k) (m ∷ ms) q = let longer = leads_longer frugal behind among k (m ∷ ms) q.1 in omega (arith, longer)
   leads_longer frugal behind among (f ∷ k) ms q = let longer = leads_longer frugal behind among k ms q.1 in omega (arith, longer)
 
   leaves_longer : (frugal : Allowance) (behind : Control) (among : List Value) (k : Control) (ms : List Master) → FrugalLeaves frugal behind among k ms → suc (length behind) ≤ length k
@@ -392,13 +527,6 @@ operated_shorter frugal back among k ms q is =
     let longer = operated_longer frugal back among k ms q in
     let same = ap length is in
     omega (arith, longer, same)
-
--- What is left behind an operation waits for one.
-pub operated_awaited : (frugal : Allowance) (back : Control) (among : List Value) (k : Control) (ms : List Master) → FrugalOperated frugal back among k ms → IsAwaited k
-operated_awaited frugal back among [] ms q = absurd q
-operated_awaited frugal back among (frame.Confines ∷ k) ms q = tt
-operated_awaited frugal back among (frame.Awaits v by done of part tasks ∷ k) ms q = tt
-operated_awaited frugal back among (f ∷ k) ms q = absurd q
 
 -- Where it waits for none, none of an object does.
 pub none_operated : (k : Control) → (IsAwaited k → ⊥) → operated_in k ≡ []
@@ -466,6 +594,7 @@ module _ (frugal : Allowance) (i : Item) (variable : IsOwnedBy frugal i.owned) w
     more_leads behind among (Elaborates ds fs hs ∷ k) m ms ((own, frame), q) = (((variable, own), frame), q)
     more_leads behind among (Closes ∷ k) m ms (own, q) = ((variable, own), q)
     more_leads behind among (Declares x ∷ k) m ms q = (q.0, more_leads behind among k m ms q.1)
+    more_leads behind among (DeclaresRecord x t ∷ k) m ms q = (q.0, more_leads behind among k m ms q.1)
     more_leads behind among (f ∷ k) m ms q = (q.0, more_leads behind among k m ms q.1)
 
     more_leaves : (behind : Control) (among : List Value) (j : Control) (m : Master) (ms : List Master)

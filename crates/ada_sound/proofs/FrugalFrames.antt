@@ -2,10 +2,11 @@
 -- nothing is treated next but an object that is freed or undone, or whose master is left, or a new one that begins (4.8, 3.3.1), and what is called is frugal,
 -- too (6.4).
 
-use Rattle.std.proofs.Common.{◌≡◌, ℕ, Bool, true, false, List, [], ◌∷◌, ◌++◌, refl, sym, subst, inl, inr}
-use Rattle.std.specs.Prelude.{ℤ, map, Option, Some, None, drop, Result, Ok, Err, ◌&&◌, ◌||◌, ◌==◌, int_le, if◌then◌else◌}
+use Rattle.std.proofs.Common.{◌≡◌, ℕ, Bool, true, false, List, [], ◌∷◌, ◌++◌, refl, sym, ◌∙◌, subst, ◌⊎◌, inl, inr}
+use Rattle.std.specs.Prelude.{ℤ, map, Option, Some, None, is_some, drop, Result, Ok, Err, not, ◌&&◌, ◌||◌, ◌==◌, int_le, if◌then◌else◌}
 use Rattle.std.specs.List.{slice_get, slice_index_or}
-use Rattle.ada_program.specs.Typed.{words_of}
+use Rattle.ada_program.specs.Typed.{words_of, width_of}
+use Rattle.ada_program.specs.WellFormed.{finalization_of}
 use Rattle.ada_values.specs.declared.operator.BinaryOperator.{BinaryOperator}
 use Rattle.ada_values.specs.declared.fault.OperatorFault.{OperatorFault}
 use Rattle.ada_values.specs.declared.fault.OperatorFault.TheVariants.{Overflow, DivisionByZero, WrongType}
@@ -18,7 +19,7 @@ use Rattle.ada_parts.specs.declared.tasks.Direction.TheVariants.{PartsFirst, Who
 use Rattle.ada_parts.specs.Part.{Part}
 use Rattle.ada_parts.specs.Task.{Task}
 use Rattle.ada_meaning.specs.declared.event.Cause.{Cause}
-use Rattle.ada_meaning.specs.declared.event.Cause.TheVariants.{Freeing, Leaving, Undoing}
+use Rattle.ada_meaning.specs.declared.event.Cause.TheVariants.{Assigning, Freeing, Leaving, Undoing}
 use Rattle.ada_meaning.specs.declared.event.Halt.TheVariants.{Erroneous}
 use Rattle.ada_meaning.specs.declared.event.Why.TheVariants.{GivesElsewhere}
 use Rattle.ada_meaning.specs.declared.event.Birth.{Birth}
@@ -32,19 +33,20 @@ use Rattle.ada_meaning.specs.Event.{Event, Followed, Quiet}
 use Rattle.ada_meaning.specs.Heap.{Cell, Found, on_null, on_gone, on_other, finds, PartState}
 use Rattle.std.proofs.lemmas.Bool.{eq-eqb, or_right}
 use Rattle.ada_parts.specs.Task.{performs}
-use Rattle.ada_meaning.specs.Frame.{Frame, Elaborates, Leaves, Resumes, Calls, TestsNull, RefersIn, OpensIn, Fills, Copies, Targets, Receives, FreesIn, Declares, Ends, GivesBack, Clears, ClearsIn, Confines, TargetsRecord, ends}
+use Rattle.ada_meaning.specs.Frame.{Frame, Elaborates, Leaves, Resumes, Calls, TestsNull, RefersIn, OpensIn, Fills, Copies, Targets, Assigns, Refers, Receives, FreesIn, Declares, DeclaresRecord, Ends, GivesBack, Clears, ClearsIn, Confines, TargetsRecord, StoresRecord, begins, ends}
 use Rattle.ada_meaning.specs.State.{Activation, Item, Master, Owned, declared, collection, record_object, storage_pool, Destination, height, home_of, pool_freed_to}
-use Rattle.ada_meaning.specs.Step.{undone, undo_next, broken_next, first_or, older, places_of, operands_of, with_operands, begun, record_holder_next, referred_next, refers_next, open_next, opened_next, opens_next, storing, returned, computing, call_next, entered, all_tasks, halts, moves, same_pool, raised, jumping, computed, put, owned, at, reading, component_next, follow_next, path_next, selected, named_next, before_last, last_of, holder_next, expression_next, null_test_next, is_decided, link_next, links_next, outcome_next, place_in, record_in, item_next, items_next, copied_next, copies_next, answered, new_next, right_next, freeing, freeing_next, free_next, end_next, told_back, given_back, back_next, assign_next, target_next, stored_next, store_next, record_target_next, record_stored_next, newest_ones, store_record_next, record_assign_next, has_parts, frees_next, freed_next, free_component_next, free_in_next, branches_next, decided_next, turn_next, repeats_next, turned_next, count_turn_next, counts_next, ranges_next, gets_next, received_next, receive_next, exit_next, exited_next, stmt_next, line_next, declarations_next, leave_next, master_leave_next, item_leave_next, granted, new_cell, born_next, awaited_next, taken_out, members_next, treating}
+use Rattle.ada_meaning.specs.Step.{copy_next, assigning, assigns_next, record_tasks, undone, undo_next, broken_next, first_or, older, places_of, operands_of, with_operands, begun, record_holder_next, referred_next, refers_next, open_next, opened_next, opens_next, storing, returned, computing, call_next, entered, all_tasks, made, halts, moves, same_pool, raised, jumping, computed, put, owned, at, reading, component_next, follow_next, path_next, selected, named_next, before_last, last_of, holder_next, expression_next, null_test_next, is_decided, link_next, links_next, outcome_next, place_in, record_in, item_next, items_next, copied_next, copies_next, answered, new_next, right_next, freeing, freeing_next, free_next, end_next, told_back, given_back, back_next, assign_next, target_next, stored_next, store_next, record_target_next, record_stored_next, newest_ones, store_record_next, record_assign_next, has_parts, frees_next, freed_next, free_component_next, free_in_next, branches_next, decided_next, turn_next, repeats_next, turned_next, count_turn_next, counts_next, ranges_next, gets_next, received_next, receive_next, exit_next, exited_next, stmt_next, line_next, declarations_next, leave_next, master_leave_next, item_leave_next, granted, new_cell, born_next, awaited_next, taken_out, members_next, treating}
 use Rattle.ada_meaning.specs.Named.{Object, State, Next, named, whole, look, standing, created, members}
 use Rattle.ada_quiet.specs.Bare.{has_bare_objects}
+use Rattle.ada_quiet.specs.Idle.{holds_parts}
 use Rattle.ada_finalized.specs.Law.{NoOperationRunsOn}
 use Rattle.ada_owners.proofs.Objects.{next_id}
 use Rattle.ada_scopes.specs.Scopes.{is_innermost, is_number_of}
-use Rattle.ada_sound.proofs.Allowance.{Allowance, may_treat, allocates_thriftily, is_thrifty_declaration, are_thrifty_declarations, is_thrifty_stmt, are_thrifty, are_thrifty_branches, are_thrifty_handlers, is_thrifty_body, thrifty_parts}
+use Rattle.ada_sound.proofs.Allowance.{Allowance, is_inert, may_assign, body_more, may_treat, allocates_thriftily, is_thrifty_declaration, are_thrifty_declarations, is_thrifty_stmt, are_thrifty, are_thrifty_branches, are_thrifty_handlers, is_thrifty_body, thrifty_parts}
 use Rattle.ada_sound.proofs.Fits.{place_at}
 use Rattle.ada_sound.proofs.Invariant.{Control}
 use Rattle.ada_sound.proofs.OperationStarts.{apart}
-use Rattle.ada_sound.proofs.FrugalControl.{AreOwnedBy, BeginsThere, FrugalLeads, FrugalLeaves, Frugally, GoesFrugally, IsLeft, IsOwnedBy, MayLeave, beginning_frugal, more_leads, treating_leads, treating_leaves, with_variable}
+use Rattle.ada_sound.proofs.FrugalControl.{AdjustsThere, AreOwnedBy, BeginsThere, EndsAssigned, FrugalBegins, FrugalLeads, FrugalLeaves, Frugally, GoesFrugally, IsLeft, IsOwnedBy, MayLeave, RecordIsInside, adjusting_frugal, assigned_parts, assigned_with, beginning_frugal, finalizing_frugal, more_leads, own_in, own_treating, storing_frugal, treating_leads, treating_leaves, waits_first, with_variable}
 use Rattle.ada_sound.proofs.FrugalFrees.{RecordIsBare, IsFreely, StmtIsFreely, IsNewly, LeftAlone, Unborn, past_unborn}
 use Rattle.ada_sound.proofs.Stored.{IsTaken, taken_is}
 
@@ -259,13 +261,46 @@ module _ (frugal : Allowance) (lower : List Master) (behind : Control) (among : 
     store_on o c v on_other all k q = tt
     store_on o c v (finds cell) all k q = stored_on o c v (slice_get cell.values c) all k q
 
-    -- A record without controlled parts is assigned (5.2): the object in which it lies is found, the items are evaluated, and then its components get their
-    -- values.
-    record_assign_on : (parts : Bool) → parts ≡ false → (p : RecordPathForm) (items : List ItemForm) (all : List (Activation Value)) → (k : Control) → Left k → Fine (record_assign_next named parts p items (now all k ms))
-    record_assign_on true none p items all k q = absurd (cc none)
-    record_assign_on false none p items all k q =
+    -- A record is assigned to (5.2). With controlled parts it gets its value from one other record: target and source are found first.
+    copy_on : (p : RecordPathForm) (items : List ItemForm) (all : List (Activation Value)) → (k : Control) → may_assign frugal (own_in k) p.record_type ≡ true → Left k → Fine (copy_next named p items (now all k ms))
+    copy_on p [] all k may q = tt
+    copy_on p (item_of_record source ∷ []) all k may q = on _ refl (tt, (tt, (may, q)))
+    copy_on p (i ∷ is) all k may q = tt
+
+    -- Without, the object in which it lies is found, the items are evaluated, and then its components get their values.
+    record_assign_on : (p : RecordPathForm) (items : List ItemForm) (all : List (Activation Value)) → (k : Control) → (parts : Bool) → (parts ≡ true → may_assign frugal (own_in k) p.record_type ≡ true) → Left k → Fine (record_assign_next named parts p items (now all k ms))
+    record_assign_on p items all k true may q = copy_on p items all k (may refl) q
+    record_assign_on p items all k false may q =
         let v = place_at (places_of all) p.object.root in
         path_on (selected named v p.object.selectors) (whole v) all (TargetsRecord (place_in named v p.object.selectors p).component p.record_type items ∷ k) (tt, q)
+
+    -- Where target and source are found and are not one, the target is finalized, the source is copied to it, and it is adjusted.
+    assigning_on : (t : ℕ) (target source : Value) → RecordIsInside frugal tds → (all : List (Activation Value)) → (k : Control) → may_assign frugal (own_in k) t ≡ true → Left k → Goes (assigning named tds t target source (now all k ms))
+    assigning_on t target source inert all k may q = record {
+      upper = ms;
+      masters = refl;
+      frugally = finalizing_frugal frugal behind among (named.whole target) (Assigning s.next) (record_tasks tds t WholeFirst (named.part_base target)) copied ms
+          (tt, refl, (own.0, own_copied, (t, own.2, inert t WholeFirst (named.part_base target))))
+          (storing_frugal frugal behind among (named.whole target) (named.base target) (width_of tds t) (named.whole target) (Adjustment s.next) [] adjusted k ms
+          (tt, (own.0, own.1, (t, own.2, inert t PartsFirst (named.part_base target)))) q);
+    }
+      where
+        own : (frugal.treats_parts ≡ true) × (own_in k ≡ true) × (is_inert frugal t ≡ true)
+        own = assigned_parts frugal (own_in k) t may
+
+        adjusted : List Task
+        adjusted = record_tasks tds t PartsFirst (named.part_base target)
+
+        copied : Control
+        copied = Copies (named.base source) t ∷ StoresRecord (named.whole target) (named.base target) (width_of tds t) ∷ treating (named.whole target) (begins (Adjustment s.next) []) adjusted k
+
+        own_copied : own_in copied ≡ true
+        own_copied = own_treating (named.whole target) (begins (Adjustment s.next) []) adjusted k ∙ own.1
+
+    pub assigned_on : (t : ℕ) (target source : Value) (same : Option Bool) → RecordIsInside frugal tds → (all : List (Activation Value)) → (k : Control) → may_assign frugal (own_in k) t ≡ true → Left k → Fine (assigns_next named tds t target source same (now all k ms))
+    assigned_on t target source None inert all k may q = tt
+    assigned_on t target source (Some true) inert all k may q = on _ refl q
+    assigned_on t target source (Some false) inert all k may q = assigning_on t target source inert all k may q
 
     pub record_target_on : (o : Value) (first count : ℕ) (items : List ItemForm) (found : Found (Cell Value)) (all : List (Activation Value)) → (k : Control) → Left k → Fine (record_target_next named o first count items found (now all k ms))
     record_target_on o first count items on_null all k q = raises_on ConstraintError all k q
@@ -350,46 +385,46 @@ module _ (frugal : Allowance) (lower : List Master) (behind : Control) (among : 
         by false = tt
 
     -- Branches.
-    pub branches_on : (branches : BranchesForm) → are_thrifty_branches frugal branches ≡ true → (all : List (Activation Value)) → (k : Control) → Left k → Fine (branches_next named branches (now all k ms))
-    branches_on (otherwise fs) thrifty all k q = on _ refl (thrifty, q)
-    branches_on (a_branch e fs branches) thrifty all k q =
-        let both = apart (are_thrifty frugal fs) (are_thrifty_branches frugal branches) thrifty in
+    pub branches_on : (branches : BranchesForm) → (all : List (Activation Value)) → (k : Control) → are_thrifty_branches frugal (own_in k) branches ≡ true → Left k → Fine (branches_next named branches (now all k ms))
+    branches_on (otherwise fs) all k thrifty q = on _ refl (thrifty, q)
+    branches_on (a_branch e fs branches) all k thrifty q =
+        let both = apart (are_thrifty frugal (own_in k) fs) (are_thrifty_branches frugal (own_in k) branches) thrifty in
         on _ refl (tt, (both, q))
 
-    pub decided_on : (fs : StmtsForm) (branches : BranchesForm) (truth : Option Bool) → (are_thrifty frugal fs ≡ true) × (are_thrifty_branches frugal branches ≡ true) → (all : List (Activation Value)) → (k : Control) → Left k → Fine (decided_next named fs branches truth (now all k ms))
-    decided_on fs branches None thrifty all k q = tt
-    decided_on fs branches (Some true) thrifty all k q = on _ refl (thrifty.0, q)
-    decided_on fs branches (Some false) thrifty all k q = branches_on branches thrifty.1 all k q
+    pub decided_on : (fs : StmtsForm) (branches : BranchesForm) (truth : Option Bool) → (all : List (Activation Value)) → (k : Control) → (are_thrifty frugal (own_in k) fs ≡ true) × (are_thrifty_branches frugal (own_in k) branches ≡ true) → Left k → Fine (decided_next named fs branches truth (now all k ms))
+    decided_on fs branches None all k thrifty q = tt
+    decided_on fs branches (Some true) all k thrifty q = on _ refl (thrifty.0, q)
+    decided_on fs branches (Some false) all k thrifty q = branches_on branches all k thrifty.1 q
 
     -- Loops.
-    turn_on : (condition : Option ExpressionForm) (fs : StmtsForm) → are_thrifty frugal fs ≡ true → (all : List (Activation Value)) → (k : Control) → Left k → Fine (turn_next named condition fs (now all k ms))
-    turn_on condition no_stmts thrifty all k q = tt
-    turn_on condition (a_stmt f fs) thrifty all k q = on _ refl (thrifty, (thrifty, q))
+    turn_on : (condition : Option ExpressionForm) (fs : StmtsForm) → (all : List (Activation Value)) → (k : Control) → are_thrifty frugal (own_in k) fs ≡ true → Left k → Fine (turn_next named condition fs (now all k ms))
+    turn_on condition no_stmts all k thrifty q = tt
+    turn_on condition (a_stmt f fs) all k thrifty q = on _ refl (thrifty, (thrifty, q))
 
-    pub repeats_on : (condition : Option ExpressionForm) (fs : StmtsForm) → are_thrifty frugal fs ≡ true → (all : List (Activation Value)) → (k : Control) → Left k → Fine (repeats_next named condition fs (now all k ms))
-    repeats_on None fs thrifty all k q = turn_on None fs thrifty all k q
-    repeats_on (Some e) fs thrifty all k q = on _ refl (tt, (thrifty, q))
+    pub repeats_on : (condition : Option ExpressionForm) (fs : StmtsForm) → (all : List (Activation Value)) → (k : Control) → are_thrifty frugal (own_in k) fs ≡ true → Left k → Fine (repeats_next named condition fs (now all k ms))
+    repeats_on None fs all k thrifty q = turn_on None fs all k thrifty q
+    repeats_on (Some e) fs all k thrifty q = on _ refl (tt, (thrifty, q))
 
-    pub turned_on : (e : ExpressionForm) (fs : StmtsForm) (truth : Option Bool) → are_thrifty frugal fs ≡ true → (all : List (Activation Value)) → (k : Control) → Left k → Fine (turned_next named e fs truth (now all k ms))
-    turned_on e fs None thrifty all k q = tt
-    turned_on e fs (Some true) thrifty all k q = turn_on (Some e) fs thrifty all k q
-    turned_on e fs (Some false) thrifty all k q = on _ refl q
+    pub turned_on : (e : ExpressionForm) (fs : StmtsForm) (truth : Option Bool) → (all : List (Activation Value)) → (k : Control) → are_thrifty frugal (own_in k) fs ≡ true → Left k → Fine (turned_next named e fs truth (now all k ms))
+    turned_on e fs None all k thrifty q = tt
+    turned_on e fs (Some true) all k thrifty q = turn_on (Some e) fs all k thrifty q
+    turned_on e fs (Some false) all k thrifty q = on _ refl q
 
-    count_turn_on : (x : ℕ) (value last : ℤ) (fs : StmtsForm) → are_thrifty frugal fs ≡ true → (all : List (Activation Value)) → (k : Control) → Left k → Fine (count_turn_next named x value last fs (now all k ms))
-    count_turn_on x value last no_stmts thrifty all k q = tt
-    count_turn_on x value last (a_stmt f fs) thrifty all k q = on _ refl (thrifty, (thrifty, q))
+    count_turn_on : (x : ℕ) (value last : ℤ) (fs : StmtsForm) → (all : List (Activation Value)) → (k : Control) → are_thrifty frugal (own_in k) fs ≡ true → Left k → Fine (count_turn_next named x value last fs (now all k ms))
+    count_turn_on x value last no_stmts all k thrifty q = tt
+    count_turn_on x value last (a_stmt f fs) all k thrifty q = on _ refl (thrifty, (thrifty, q))
 
-    pub counts_on : (x : ℕ) (value last : ℤ) (fs : StmtsForm) → are_thrifty frugal fs ≡ true → (all : List (Activation Value)) → (k : Control) → Left k → Fine (counts_next named x value last fs (now all k ms))
-    counts_on x value last fs thrifty all k q = by (int_le value last)
+    pub counts_on : (x : ℕ) (value last : ℤ) (fs : StmtsForm) → (all : List (Activation Value)) → (k : Control) → are_thrifty frugal (own_in k) fs ≡ true → Left k → Fine (counts_next named x value last fs (now all k ms))
+    counts_on x value last fs all k thrifty q = by (int_le value last)
       where
         by : (b : Bool) → Fine (if b then count_turn_next named x value last fs (now all k ms) else moves Quiet (now all k ms))
-        by true = count_turn_on x value last fs thrifty all k q
+        by true = count_turn_on x value last fs all k thrifty q
         by false = on _ refl q
 
-    pub ranges_on : (x : ℕ) (fs : StmtsForm) (low high : Option ℤ) → are_thrifty frugal fs ≡ true → (all : List (Activation Value)) → (k : Control) → Left k → Fine (ranges_next named x fs low high (now all k ms))
-    ranges_on x fs None high thrifty all k q = tt
-    ranges_on x fs (Some low) None thrifty all k q = tt
-    ranges_on x fs (Some low) (Some high) thrifty all k q = counts_on x low high fs thrifty all k q
+    pub ranges_on : (x : ℕ) (fs : StmtsForm) (low high : Option ℤ) → (all : List (Activation Value)) → (k : Control) → are_thrifty frugal (own_in k) fs ≡ true → Left k → Fine (ranges_next named x fs low high (now all k ms))
+    ranges_on x fs None high all k thrifty q = tt
+    ranges_on x fs (Some low) None all k thrifty q = tt
+    ranges_on x fs (Some low) (Some high) all k thrifty q = counts_on x low high fs all k thrifty q
 
     -- The input.
     gets_on : (cs : List ℕ) (x : ℕ) (input : List ℤ) (all : List (Activation Value)) → (k : Control) → Left k → Fine (gets_next named cs x input (now all k ms))
@@ -423,10 +458,10 @@ module _ (frugal : Allowance) (lower : List Master) (behind : Control) (among : 
     line_on (Some i) all k q = on _ refl q
 
     -- A block is a master of its own.
-    encloses_on : (ds : List DeclarationForm) (fs : StmtsForm) (hs : HandlersForm) → (are_thrifty_declarations frugal ds && are_thrifty frugal fs && are_thrifty_handlers frugal hs) ≡ true → (all : List (Activation Value)) → (k : Control) → Left k → Goes (entered (at (Elaborates ds fs hs ∷ k) (now all k ms)))
-    encloses_on ds fs hs thrifty all k q =
-        let one = apart (are_thrifty_declarations frugal ds && are_thrifty frugal fs) (are_thrifty_handlers frugal hs) thrifty in
-        let two = apart (are_thrifty_declarations frugal ds) (are_thrifty frugal fs) one.0 in
+    encloses_on : (ds : List DeclarationForm) (fs : StmtsForm) (hs : HandlersForm) → (all : List (Activation Value)) → (k : Control) → (are_thrifty_declarations frugal ds && are_thrifty frugal (own_in k) fs && are_thrifty_handlers frugal (own_in k) hs) ≡ true → Left k → Goes (entered (at (Elaborates ds fs hs ∷ k) (now all k ms)))
+    encloses_on ds fs hs all k thrifty q =
+        let one = apart (are_thrifty_declarations frugal ds && are_thrifty frugal (own_in k) fs) (are_thrifty_handlers frugal (own_in k) hs) thrifty in
+        let two = apart (are_thrifty_declarations frugal ds) (are_thrifty frugal (own_in k) fs) one.0 in
         record {
           upper = record { number = s.next; items = [] } ∷ ms;
           masters = refl;
@@ -475,16 +510,16 @@ module _ (frugal : Allowance) (lower : List Master) (behind : Control) (among : 
     computing_left (in_out_component path ∷ rest) k q = (tt, computing_left rest k q)
     computing_left (in_out_record p ∷ rest) k q = (tt, computing_left rest k q)
 
-    call_on : (number : ℕ) (actuals : List ActualForm) (found : Option BodyForm) → ((b : BodyForm) → found ≡ Some b → is_thrifty_body frugal b ≡ true) → (all : List (Activation Value)) → (k : Control) → Left k → Fine (call_next named number actuals found (now all k ms))
+    call_on : (number : ℕ) (actuals : List ActualForm) (found : Option BodyForm) → ((b : BodyForm) → found ≡ Some b → is_thrifty_body frugal false b ≡ true) → (all : List (Activation Value)) → (k : Control) → Left k → Fine (call_next named number actuals found (now all k ms))
     call_on number actuals None thrifty all k q = tt
     call_on number actuals (Some b) thrifty all k q = on _ refl (computing_left actuals (Calls number b actuals ∷ k) (thrifty b refl, q))
 
     -- The body that is called begins, in a master of its own.
-    pub begun_on : (number : ℕ) (b : BodyForm) (actuals : List ActualForm) (vs : List Value) → is_thrifty_body frugal b ≡ true → (all : List (Activation Value)) → (k : Control) → Left k → Goes (begun named number b actuals vs (now all k ms))
+    pub begun_on : (number : ℕ) (b : BodyForm) (actuals : List ActualForm) (vs : List Value) → is_thrifty_body frugal false b ≡ true → (all : List (Activation Value)) → (k : Control) → Left k → Goes (begun named number b actuals vs (now all k ms))
     begun_on number b actuals vs thrifty all k q = record {
       upper = record { number = s.next; items = [] } ∷ ms;
       masters = refl;
-      frugally = inl ((tt, thrifty_parts frugal b thrifty), inr (inl q));
+      frugally = inl ((tt, thrifty_parts frugal (waits_first k) b (body_more frugal b thrifty (waits_first k))), inr (inl q));
     }
 
     -- It has ended: what its caller gets back in components is stored next.
@@ -496,41 +531,42 @@ module _ (frugal : Allowance) (lower : List Master) (behind : Control) (among : 
     returned_on actuals references all k q = on _ refl (storing_left references k q)
 
     -- Statements.
-    pub stmt_on : (f : StmtForm) → ((number : ℕ) (b : BodyForm) → slice_get bodies number ≡ Some b → slice_index_or frugal.procedures number false ≡ true → is_thrifty_body frugal b ≡ true) → RecordIsBare frugal.types tds → is_thrifty_stmt frugal f ≡ true → (all : List (Activation Value)) → (k : Control) → StmtIsFreely frugal tds f k s.heap (places_of all) → Left k → Fine (stmt_next named tds bodies f (now all k ms))
-    stmt_on skips finds_frugal records_bare thrifty all k freely q = on _ refl q
-    stmt_on (assigns target right) finds_frugal records_bare thrifty all k freely q = assigns_on target.selectors target.root right thrifty all k q
-    stmt_on (assigns_record target items) finds_frugal records_bare thrifty all k freely q =
-        record_assign_on (has_parts tds target.record_type) (records_bare target.record_type thrifty) target items all k q
-    stmt_on (frees access path) finds_frugal records_bare thrifty all k freely q = frees_on path.selectors access path.root all thrifty k freely q
-    stmt_on (gets target) finds_frugal records_bare thrifty all k freely q = gets_on target.selectors target.root s.input all k q
-    stmt_on (writes e) finds_frugal records_bare thrifty all k freely q = on _ refl (tt, (tt, q))
-    stmt_on (writes_text text) finds_frugal records_bare thrifty all k freely q = on _ refl q
-    stmt_on (chooses branches) finds_frugal records_bare thrifty all k freely q = branches_on branches thrifty all k q
-    stmt_on (repeats condition fs spot) finds_frugal records_bare thrifty all k freely q = on _ refl (thrifty, q)
-    stmt_on (counts x low high fs spot) finds_frugal records_bare thrifty all k freely q = on _ refl (tt, (tt, (thrifty, q)))
-    stmt_on (exits condition spot) finds_frugal records_bare thrifty all k freely q = exit_on condition all k q
-    stmt_on (calls number actuals) finds_frugal records_bare thrifty all k freely q = call_on number actuals (slice_get bodies number) (λ b there. finds_frugal number b there thrifty) all k q
-    stmt_on (returns spot) finds_frugal records_bare thrifty all k freely q = jumps_on Returning all k q
-    stmt_on (raises e) finds_frugal records_bare thrifty all k freely q = raises_on e all k q
-    stmt_on (encloses ds fs hs) finds_frugal records_bare thrifty all k freely q = encloses_on ds fs hs thrifty all k q
+    pub stmt_on : (f : StmtForm) → ((number : ℕ) (b : BodyForm) → slice_get bodies number ≡ Some b → slice_index_or frugal.procedures number false ≡ true → is_thrifty_body frugal false b ≡ true) → RecordIsBare frugal.types tds → (all : List (Activation Value)) → (k : Control) → is_thrifty_stmt frugal (own_in k) f ≡ true → StmtIsFreely frugal tds f k s.heap (places_of all) → Left k → Fine (stmt_next named tds bodies f (now all k ms))
+    stmt_on skips finds_frugal records_bare all k thrifty freely q = on _ refl q
+    stmt_on (assigns target right) finds_frugal records_bare all k thrifty freely q = assigns_on target.selectors target.root right thrifty all k q
+    stmt_on (assigns_record target items) finds_frugal records_bare all k thrifty freely q =
+        record_assign_on target items all k (has_parts tds target.record_type) (assigned_with (has_parts tds target.record_type) (not (is_some (finalization_of frugal.types target.record_type))) (may_assign frugal (own_in k) target.record_type) (records_bare target.record_type) thrifty) q
+    stmt_on (frees access path) finds_frugal records_bare all k thrifty freely q = frees_on path.selectors access path.root all thrifty k freely q
+    stmt_on (gets target) finds_frugal records_bare all k thrifty freely q = gets_on target.selectors target.root s.input all k q
+    stmt_on (writes e) finds_frugal records_bare all k thrifty freely q = on _ refl (tt, (tt, q))
+    stmt_on (writes_text text) finds_frugal records_bare all k thrifty freely q = on _ refl q
+    stmt_on (chooses branches) finds_frugal records_bare all k thrifty freely q = branches_on branches all k thrifty q
+    stmt_on (repeats condition fs spot) finds_frugal records_bare all k thrifty freely q = on _ refl (thrifty, q)
+    stmt_on (counts x low high fs spot) finds_frugal records_bare all k thrifty freely q = on _ refl (tt, (tt, (thrifty, q)))
+    stmt_on (exits condition spot) finds_frugal records_bare all k thrifty freely q = exit_on condition all k q
+    stmt_on (calls number actuals) finds_frugal records_bare all k thrifty freely q = call_on number actuals (slice_get bodies number) (λ b there. finds_frugal number b there thrifty) all k q
+    stmt_on (returns spot) finds_frugal records_bare all k thrifty freely q = jumps_on Returning all k q
+    stmt_on (raises e) finds_frugal records_bare all k thrifty freely q = raises_on e all k q
+    stmt_on (encloses ds fs hs) finds_frugal records_bare all k thrifty freely q = encloses_on ds fs hs all k thrifty q
 
   -- The declarations of a block, or of the body.
   declaration_on : (m : Master) (ms : List Master) → AreOwnedBy frugal m.items → (d : DeclarationForm) (ds : List DeclarationForm) (fs : StmtsForm) (hs : HandlersForm)
       → is_thrifty_declaration frugal d ≡ true
-      → (are_thrifty_declarations frugal ds ≡ true) × (are_thrifty frugal fs ≡ true) × (are_thrifty_handlers frugal hs ≡ true)
-      → (all : List (Activation Value)) → (k : Control) → (frugal.objects ≡ true → Unborn s.heap k) → FrugalLeads frugal behind among k ms
+      → (all : List (Activation Value)) → (k : Control)
+      → (are_thrifty_declarations frugal ds ≡ true) × (are_thrifty frugal (own_in k) fs ≡ true) × (are_thrifty_handlers frugal (own_in k) hs ≡ true)
+      → (frugal.objects ≡ true → Unborn s.heap k) → FrugalLeads frugal behind among k ms
       → Fine (declarations_next named tds (d ∷ ds) fs hs (now all k (m ∷ ms)))
-  declaration_on m ms own (creates_pool p) ds fs hs thrifty more all k unborn q = absurd (cc thrifty)
-  declaration_on m ms own (collects access) ds fs hs thrifty more all k unborn q = absurd (cc thrifty)
-  declaration_on m ms own (declares_record x t None) ds fs hs thrifty more all k unborn q = record {
+  declaration_on m ms own (creates_pool p) ds fs hs thrifty all k more unborn q = absurd (cc thrifty)
+  declaration_on m ms own (collects access) ds fs hs thrifty all k more unborn q = absurd (cc thrifty)
+  declaration_on m ms own (declares_record x t None) ds fs hs thrifty all k more unborn q = record {
     upper = record m { items = record { number = height ((m ∷ ms) ++ lower); owned = record_object t } ∷ m.items } ∷ ms;
     masters = refl;
     frugally = beginning_frugal frugal behind among (created s.heap (words_of tds t)) Creation [] (all_tasks tds t PartsFirst) (Elaborates ds fs hs ∷ k)
         (record m { items = record { number = height ((m ∷ ms) ++ lower); owned = record_object t } ∷ m.items } ∷ ms)
         (refl, thrifty, unborn thrifty (next_id s.heap) (past_unborn s.heap)) (((thrifty, own), more), q);
   }
-  declaration_on m ms own (declares_record x t (Some items)) ds fs hs thrifty more all k unborn q = absurd (cc thrifty)
-  declaration_on m ms own (declares x right) ds fs hs thrifty more all k unborn q = on (m ∷ ms) _ refl (thrifty, (tt, ((own, more), q)))
+  declaration_on m ms own (declares_record x t (Some items)) ds fs hs thrifty all k more unborn q = on (m ∷ ms) _ refl (tt, (thrifty, ((own, more), q)))
+  declaration_on m ms own (declares x right) ds fs hs thrifty all k more unborn q = on (m ∷ ms) _ refl (thrifty, (tt, ((own, more), q)))
 
   pub declarations_on : (ms : List Master) (ds : List DeclarationForm) (fs : StmtsForm) (hs : HandlersForm) (all : List (Activation Value)) → (k : Control)
       → (frugal.objects ≡ true → Unborn s.heap k) → FrugalLeads frugal behind among (Elaborates ds fs hs ∷ k) ms
@@ -539,7 +575,7 @@ module _ (frugal : Allowance) (lower : List Master) (behind : Control) (among : 
   declarations_on (m ∷ ms) [] fs hs all k unborn ((own, (ds_thrifty, thrifty, hs_thrifty)), q) = on (m ∷ ms) _ refl (thrifty, (hs_thrifty, (own, q)))
   declarations_on (m ∷ ms) (d ∷ ds) fs hs all k unborn ((own, (ds_thrifty, thrifty, hs_thrifty)), q) =
       let both = apart (is_thrifty_declaration frugal d) (are_thrifty_declarations frugal ds) ds_thrifty in
-      declaration_on m ms own d ds fs hs both.0 (both.1, thrifty, hs_thrifty) all k unborn q
+      declaration_on m ms own d ds fs hs both.0 all k (both.1, thrifty, hs_thrifty) unborn q
 
   pub declares_on : (ms : List Master) (x : ℕ) (v : Value) (all : List (Activation Value)) → (k : Control) → FrugalLeads frugal behind among (Declares x ∷ k) ms → Goes (owned (declared x) (put x v (now all k ms)))
   declares_on [] x v all k q = absurd q
@@ -548,6 +584,49 @@ module _ (frugal : Allowance) (lower : List Master) (behind : Control) (among : 
     masters = refl;
     frugally = inl (more_leads frugal (record { number = height ((m ∷ ms) ++ lower); owned = declared x }) tt behind among k m ms q.1);
   }
+
+  -- A record object is there, which got what its items were: nothing is to be done for it.
+  pub record_declares_on : (ms : List Master) (x t : ℕ) (values : List Value) (all : List (Activation Value)) → (k : Control) → all_tasks tds t PartsFirst ≡ []
+      → FrugalLeads frugal behind among (DeclaresRecord x t ∷ k) ms → Goes (made named tds x t Copy values (now all k ms))
+  record_declares_on [] x t values all k none q = absurd q
+  record_declares_on (m ∷ ms) x t values all k none q = record {
+    upper = with_variable (record { number = height ((m ∷ ms) ++ lower); owned = record_object t }) m ∷ ms;
+    masters = refl;
+    frugally =
+        rw none (inl (more_leads frugal (record { number = height ((m ∷ ms) ++ lower); owned = record_object t })
+        (apart frugal.objects (not (holds_parts frugal.types t)) q.0).0 behind among k m ms q.1));
+  }
+
+  -- An inert record is assigned to: another one is copied,
+  begins_so : (ms : List Master) (after : State) → after.masters ≡ ms ++ lower → after.mode ≡ Running → FrugalBegins frugal behind among after.control ms → Goes after
+  begins_so ms after masters runs q = record { upper = ms; masters = masters; frugally = rw runs (inr (inr (tt, q))) }
+
+  pub breaks_so : (ms : List Master) (e : Exception) (after : State) → after.masters ≡ ms ++ lower → after.mode ≡ Raising e → FrugalBegins frugal behind among after.control ms → Goes after
+  breaks_so ms e after masters raised_so q = record { upper = ms; masters = masters; frugally = rw raised_so (inr (inr (tt, q))) }
+
+  copying_on : (ms : List Master) (o : Value) (found : Option (List Value)) (all : List (Activation Value)) (k : Control) → FrugalBegins frugal behind among k ms → Fine (copied_next named o found (now all k ms))
+  copying_on ms o None all k q = tt
+  copying_on ms o (Some vs) all k q = begins_so ms _ refl refl q
+
+  pub copies_begin_on : (ms : List Master) (o : Value) (first count : ℕ) (found : Found (Cell Value)) (all : List (Activation Value)) (k : Control) → FrugalBegins frugal behind among k ms → Fine (copies_next named o first count found (now all k ms))
+  copies_begin_on ms o first count on_null all k q = record { upper = ms; masters = refl; frugally = inr (inr (tt, q)) }
+  copies_begin_on ms o first count on_gone all k q = tt
+  copies_begin_on ms o first count on_other all k q = tt
+  copies_begin_on ms o first count (finds cell) all k q = copying_on ms o (record_in cell.values first count) all k q
+
+  -- and stored.
+  storing_on : (ms : List Master) (o : Value) (first : ℕ) (vs : List Value) (found : Option (List Value)) (all : List (Activation Value)) (k : Control) → FrugalBegins frugal behind among k ms → Fine (record_stored_next named o first vs found (now all k ms))
+  storing_on ms o first vs None all k q = tt
+  storing_on ms o first vs (Some before) all k q = begins_so ms _ refl refl q
+
+  pub store_begin_on : (ms : List Master) (o : Value) (first count : ℕ) (found : Found (Cell Value)) (all : List (Activation Value)) (k : Control) → FrugalBegins frugal behind among k ms ⊎ FrugalLeads frugal behind among k ms
+      → Fine (store_record_next named o first count found (now all k ms))
+  store_begin_on ms o first count found all k (inr q) = store_record_on ms o first count found all k q
+  store_begin_on ms o first count on_null all k (inl q) = tt
+  store_begin_on ms o first count on_gone all k (inl q) = tt
+  store_begin_on ms o first count on_other all k (inl q) = tt
+  store_begin_on ms o first count (finds cell) all k (inl q) =
+      storing_on ms o first (newest_ones named count (now all k ms)) (record_in cell.values first count) (with_operands (drop count (operands_of all)) all) k q
 
   -- A master is left.
   leaves_so : (ms : List Master) (after : State) → after.masters ≡ ms ++ lower → MayLeave after.mode after.control → FrugalLeaves frugal behind among after.control ms → Goes after

@@ -16,9 +16,10 @@ use Rattle.ada_program.proofs.Shapes.{same_number}
 use Rattle.ada_program.specs.Controlled.{number_in, number_reached, shapes_of}
 use Rattle.ada_program.specs.Form.{PathForm, StmtForm, frees, a_stmt}
 use Rattle.ada_program.specs.ProgramForm.{TypeForm, record_of, access_to, object_of, ProgramForm, program_form}
-use Rattle.ada_program.specs.WellFormed.{is_access, is_this, finalization_of, kind_among, kind_fits, reached_components, components_in, components_reached, named_in, type_fits, access_of, path_access, variable_kind, selected_kind, selectors_kind}
+use Rattle.ada_program.specs.WellFormed.{is_access, is_this, finalization_of, kind_among, kind_fits, reached_components, components_in, components_reached, named_in, object_named, type_fits, access_of, path_access, variable_kind, selected_kind, selectors_kind}
 use Rattle.ada_program.specs.Freed.{statement_frees_own, statements_free_own}
 use Rattle.ada_quiet.specs.Bare.{has_bare_objects, is_bare_access}
+use Rattle.ada_quiet.specs.Idle.{has_parts as record_has_parts, holds_parts}
 use Rattle.ada_quiet.specs.Calm.{has_calm_objects, is_calm_access, is_known_calm}
 use Rattle.ada_finalized.specs.Law.{NamesExisting, NoOperationRunsOn}
 use Rattle.ada_parts.specs.declared.tasks.Direction.{Direction}
@@ -50,15 +51,16 @@ use Rattle.ada_sound.proofs.Assigned.{access_from, this_is}
 use Rattle.ada_sound.proofs.Calm.{ends_operation, operation_ends_there}
 use Rattle.ada_sound.proofs.Fits.{place_at}
 use Rattle.ada_sound.proofs.FreedInside.{IsFreedNext}
-use Rattle.ada_sound.proofs.FrugalControl.{Frugal, FrugalLeads}
+use Rattle.ada_sound.proofs.FrugalControl.{Frugal, FrugalLeads, own_in}
 use Rattle.ada_sound.proofs.Invariant.{Control}
 use Rattle.ada_sound.proofs.OperationStarts.{apart}
 use Rattle.ada_sound.proofs.Standing.{FreesAmong}
 use Rattle.ada_owners.proofs.Objects.{next_id, at_past}
 
--- There is nothing to do for an object of an access type that designates a record type without controlled parts, neither to initialize nor to finalize it.
-abbrev pub AccessIsBare : List TypeForm → List TypeDefinition → Type 0
-AccessIsBare types tds = (access : ℕ) (direction : Direction) → has_bare_objects types access ≡ true → all_tasks tds access direction ≡ []
+-- There is nothing to do for an object without controlled parts, neither to initialize nor to finalize it, whether an access type designates it or it is known
+-- by a type of its own.
+abbrev pub ObjectIsBare : List TypeForm → List TypeDefinition → Type 0
+ObjectIsBare types tds = (t : ℕ) (direction : Direction) → not (holds_parts types t) ≡ true → all_tasks tds t direction ≡ []
 
 none_numbered : (o : Option Finalization) → not (is_some o) ≡ true → number_in o ≡ None
 none_numbered None none = refl
@@ -72,20 +74,28 @@ RecordIsBare types tds = (t : ℕ) → not (is_some (finalization_of types t)) �
 pub records_bare_by : (program : Program) → RecordIsBare (program_form program).types program.types.items
 records_bare_by program t is = ap is_some (same_number program.types.items t ∙ none_numbered (finalization_of (program_form program).types t) is)
 
--- What such a type designates has no number among the record types that have controlled parts.
-pub bare_number : (types : List TypeForm) (found : Option TypeForm) → is_bare_access types found ≡ true → shown_number types (named_in found) ≡ None
-bare_number types None is = absurd (cc is)
-bare_number types (Some (record_of name parts components finalization)) is = absurd (cc is)
-bare_number types (Some (access_to name designated pool)) is = none_numbered (finalization_of types designated) is
-bare_number types (Some (object_of record_type)) is = absurd (cc is)
+-- Such a record type has no number among those that have controlled parts, if it is one.
+bare_number : (types : List TypeForm) (record_type : Option ℕ) → not (record_has_parts types record_type) ≡ true → shown_number types record_type ≡ None
+bare_number types None is = refl
+bare_number types (Some r) is = none_numbered (finalization_of types r) is
 
 -- So it is in every program.
-pub bare_by : (program : Program) → AccessIsBare (program_form program).types program.types.items
-bare_by program access direction is =
+pub bare_by : (program : Program) → ObjectIsBare (program_form program).types program.types.items
+bare_by program t direction is =
     let tds = program.types.items in
     let types = (program_form program).types in
-    let number : number_reached tds access ≡ None = sym (known_number tds types access refl) ∙ bare_number types (slice_get types access) is in
+    let number : number_reached tds t ≡ None = sym (known_number tds types t refl) ∙ bare_number types (object_named types (Some t)) is in
     ap (tasks_for (shapes_of tds) direction) number
+
+-- An object that an access value designates has none, if these have none.
+pub bare_holds : (types : List TypeForm) (access : ℕ) → has_bare_objects types access ≡ true → not (holds_parts types access) ≡ true
+bare_holds types access is = by (slice_get types access) is
+  where
+    by : (found : Option TypeForm) → is_bare_access types found ≡ true → not (record_has_parts types (named_in found)) ≡ true
+    by None is' = refl
+    by (Some (record_of name parts components finalization)) is' = refl
+    by (Some (access_to name designated pool)) is' = is'
+    by (Some (object_of record_type)) is' = absurd (cc is')
 
 -- What a component of an access type names is of an access type, where types fit.
 kind_there : (types : List TypeForm) (components : List ComponentKind) (c own : ℕ) → list_all (kind_fits types) components ≡ true → access_of (kind_among (Some components) c) ≡ Some own → is_access types own ≡ true
@@ -328,12 +338,12 @@ module _ (frugal : Allowance) (tds : List TypeDefinition) where
   NextIsFreely [] heap places operands = Unit {0}
   NextIsFreely (f ∷ k) heap places operands = FrameIsFreely f k heap places operands
 
-  module _ (bare : AccessIsBare frugal.types tds) (may : ℕ → Bool) (Freed : Id → Type 0) (heap : List Object) (k : Control) (alone : frugal.treats_parts ≡ true → ListedAlone may Freed heap k) where
+  module _ (bare : ObjectIsBare frugal.types tds) (may : ℕ → Bool) (Freed : Id → Type 0) (heap : List Object) (k : Control) (alone : frugal.treats_parts ≡ true → ListedAlone may Freed heap k) where
     bare_freely : (v : Value) (access : ℕ) (found : Found (Cell Value)) → has_bare_objects frugal.types access ≡ true → IsOf access found → IsFreely k v found
     bare_freely v access on_null has of = tt
     bare_freely v access on_gone has of = tt
     bare_freely v access on_other has of = tt
-    bare_freely v access (finds cell) has of = inl (bare cell.access WholeFirst (rw of has))
+    bare_freely v access (finds cell) has of = inl (bare cell.access WholeFirst (bare_holds frugal.types cell.access (rw of has)))
 
     alone_freely : (v : Value) (access : ℕ) → ((o : Id) → v ≡ Names o → Freed o) → frugal.treats_parts ≡ true → may access ≡ true → IsOf access (standing heap v)
         → IsFreely k v (standing heap v)
@@ -361,13 +371,13 @@ module _ (frugal : Allowance) (tds : List TypeDefinition) where
 
   -- What is freed next in a frugal body may be so, where it is among these access types.
   pub next_freely :
-      AccessIsBare frugal.types tds → (may : ℕ → Bool) (behind : Control) (among : List Value) (heap : List Object) (values results : List Value) (k : Control) (ms : List Master)
+      ObjectIsBare frugal.types tds → (may : ℕ → Bool) (behind : Control) (among : List Value) (heap : List Object) (values results : List Value) (k : Control) (ms : List Master)
       → (frugal.treats_parts ≡ true → ListedAlone may (IsFreedNext heap values results k) heap k)
       → FrugalLeads frugal behind among k ms → FreesAmong may k → NextFreesOwn k heap values results → NextIsFreely k heap values results
   next_freely bare may behind among heap values results [] ms alone q freely own = tt
   next_freely bare may behind among heap values results (Does (a_stmt (frees access path) fs) ∷ k) ms alone q freely own =
       λ stands. is_freely bare may (IsFreedNext heap values results (Does (a_stmt (frees access path) fs) ∷ k)) heap (Does fs ∷ k) alone (place_at values path.root) access
-      (λ o names. (stands, names)) (apart (may_treat frugal access) (are_thrifty frugal fs) q.0).0 freely (own stands)
+      (λ o names. (stands, names)) (apart (may_treat frugal access) (are_thrifty frugal (own_in k) fs) q.0).0 freely (own stands)
   next_freely bare may behind among heap values results (FreesIn access c ∷ k) ms alone q freely own =
       λ cell w found there.
       is_freely bare may (IsFreedNext heap values results (FreesIn access c ∷ k)) heap k alone w access
@@ -379,7 +389,7 @@ pub frees_bare : (frugal : Allowance) → frugal.treats_parts ≡ false → (beh
     → Frugal frugal behind among mode k ms → FreesAmong (has_bare_objects frugal.types) k
 frees_bare frugal none behind among mode [] ms q = tt
 frees_bare frugal none behind among mode (Does (a_stmt (frees access path) fs) ∷ k) ms (inl q) =
-    let may = (apart (may_treat frugal access) (are_thrifty frugal fs) q.0).0 in rw none at may
+    let may = (apart (may_treat frugal access) (are_thrifty frugal (own_in k) fs) q.0).0 in rw none at may
 frees_bare frugal none behind among mode (Does (a_stmt (frees access path) fs) ∷ k) ms (inr (inl leaving)) = absurd leaving.1
 frees_bare frugal none behind among mode (Does (a_stmt (frees access path) fs) ∷ k) ms (inr (inr beginning)) = absurd beginning.1
 frees_bare frugal none behind among mode (FreesIn access c ∷ k) ms (inl q) = let may = q.0 in rw none at may
@@ -417,10 +427,10 @@ past_unborn heap (o, is, x, found, stage) =
 
 -- What such a body allocates is so.
 pub is_newly :
-    (frugal : Allowance) (tds : List TypeDefinition) → AccessIsBare frugal.types tds → (access : ℕ) (heap : List Object) (k : Control) → (frugal.objects ≡ true → Unborn heap k)
+    (frugal : Allowance) (tds : List TypeDefinition) → ObjectIsBare frugal.types tds → (access : ℕ) (heap : List Object) (k : Control) → (frugal.objects ≡ true → Unborn heap k)
     → may_create frugal access ≡ true → IsNewly frugal tds access heap k
 is_newly frugal tds bare access heap k unborn may = by frugal.objects refl may
   where
     by : (objects : Bool) → frugal.objects ≡ objects → (objects || has_bare_objects frugal.types access) ≡ true → IsNewly frugal tds access heap k
     by true is either = inr (is, unborn is (next_id heap) (past_unborn heap))
-    by false is has = inl (bare access PartsFirst has)
+    by false is has = inl (bare access PartsFirst (bare_holds frugal.types access has))

@@ -1,9 +1,16 @@
 -- Each state that a run comes to has what steps rest on: finalization leaves it so (7.6, 7.6.1).
 
+use Rattle.std.proofs.Common.{◌∷◌}
 use Rattle.ada_program.specs.declared.program.Program.{Program}
+use Rattle.ada_program.specs.ProgramForm.{program_form}
 use Rattle.ada_meaning.specs.Named.{State}
+use Rattle.ada_meaning.specs.declared.event.Cause.TheVariants.{Assigning}
+use Rattle.ada_meaning.specs.Frame.{Copies, Treats, ends}
+use Rattle.ada_assigned.proofs.Runs.{assignments_stand}
 use Rattle.ada_finalized.proofs.Standing as standing
 use Rattle.ada_finalized.proofs.Twice as twice
+use Rattle.ada_sound.proofs.AssignsInside.{operations_inside}
+use Rattle.ada_sound.proofs.Treating.{treated_in_use}
 use Rattle.ada_sound.proofs.Finalization.{finalizes_in, parts_alive}
 use Rattle.ada_sound.proofs.Grounds.{Grounds}
 use Rattle.ada_sound.proofs.Starts.{Sound}
@@ -28,6 +35,9 @@ grounds program s sound = record {
   unrun = λ o x found listed none. standing.none_runs_on_listed program sound.reached.0 sound.reached.1 s sound.reached.2 o x found listed none;
   stands = λ runs o x found listed none may. parts_alive program sound.well s sound.reached o x found (standing.listed_stand program sound.reached.0 sound.reached.1 s sound.reached.2 o x found listed none);
   exist = λ v treatment tasks k is alone. twice.values_exist program sound.reached.0 sound.reached.1 s sound.reached.2 v treatment tasks k is alone;
+  assigned = λ v number tasks first t k is alone.
+      assignments_stand program sound.well (operations_inside (program_form program) (treated_in_use program s sound.in_use sound.idle (Treats v (ends (Assigning number)) tasks ∷ Copies first t ∷ k) is tt))
+      sound.reached.0 sound.reached.1 s sound.reached.2 v number tasks first t k is alone;
   untreated_end = λ still v w cause tasks k is. standing.untreated_end program sound.reached.0 sound.reached.1 s still sound.reached.2 v w cause tasks k is;
   untreated_start = λ still v by done tasks k is. standing.untreated_start program sound.reached.0 sound.reached.1 s still sound.reached.2 v by done tasks k is;
   adjusts_alone = λ still v cause tasks first t k is. standing.adjusts_alone program sound.reached.0 sound.reached.1 s still sound.reached.2 v cause tasks first t k is;

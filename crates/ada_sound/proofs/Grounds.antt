@@ -14,6 +14,7 @@ use Rattle.ada_parts.specs.Part as parts
 use Rattle.ada_parts.specs.Task.{Task}
 use Rattle.ada_meaning.specs.declared.event.Birth.{Birth}
 use Rattle.ada_meaning.specs.declared.event.Cause.{Cause}
+use Rattle.ada_meaning.specs.declared.event.Cause.TheVariants.{Assigning}
 use Rattle.ada_meaning.specs.declared.event.Halt.TheVariants.{Erroneous}
 use Rattle.ada_meaning.specs.declared.event.Why.TheVariants.{FinalizesTwice}
 use Rattle.ada_meaning.specs.declared.state.Id.{Id}
@@ -23,6 +24,7 @@ use Rattle.ada_meaning.specs.Frame as frame
 use Rattle.ada_meaning.specs.Frame.{Treatment, begins, ends}
 use Rattle.ada_meaning.specs.Named.{Object, State, object_at, all_alive}
 use Rattle.ada_meaning.specs.Run.{Event, Run, Halts, first_state}
+use Rattle.ada_assigned.specs.Law.{RunsAlone}
 use Rattle.ada_finalized.proofs.Standing.{AdjustsAlone}
 use Rattle.ada_finalized.specs.Law.{NoOperationRuns, NoOperationRunsOn, NothingBegins}
 use Rattle.ada_meaning.specs.Finalization.{NothingTreated}
@@ -96,6 +98,9 @@ pub record Grounds (program : Program) (s : State) : Type 0 where
   -- what is treated next has the values that are to be finalized, where no operation of it runs
   pub exist : (v : Value) (treatment : Treatment) (tasks : List Task) (k : Control) → s.control ≡ frame.Treats v treatment tasks ∷ k → NoOperationRunsOn v k
       → Halts program s (Erroneous FinalizesTwice) → ⊥
+  -- so has a record to which the body of an operation assigns, behind which no other one of its object runs
+  pub assigned : (v : Value) (number : ℕ) (tasks : List Task) (first t : ℕ) (k : Control) → s.control ≡ frame.Treats v (ends (Assigning number)) tasks ∷ frame.Copies first t ∷ k
+      → RunsAlone v k → Halts program s (Erroneous FinalizesTwice) → ⊥
   -- where no operation runs, nothing is treated behind what is treated, but a record that is assigned to
   pub untreated_end : NoOperationRuns s.control → (v w : Value) (cause : Cause) (tasks : List Task) (k : Control)
       → s.control ≡ frame.Treats v (ends cause) tasks ∷ frame.Ends w ∷ k → NothingTreated k

@@ -129,6 +129,7 @@ pub mod Calm
 pub mod Allowance
 -- a frugal body of a Finalize runs
 pub mod FrugalBodies
+mod OperationNests
 -- simple bodies of an Adjust
 pub mod SimpleBodies
 -- they are of the forms of which the laws on tracked components speak
@@ -180,6 +181,9 @@ pub mod FrugalSteps
 pub mod HousesIts
 -- the masters that it leaves
 pub mod FrugalLeaves
+-- inert records, and what the bodies of operations assign
+pub mod Inert
+pub mod AssignsInside
 -- where a Finalize may be frugal
 pub mod FrugalUseParts
 pub mod FrugalUseEnds

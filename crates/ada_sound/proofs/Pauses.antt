@@ -199,6 +199,7 @@ module _ (program : Program) (s after : State) (active : after.activations ≡ s
             frugally = goes;
           };
           untreated = w.untreated;
+          alone = w.alone;
           calm = w.calm;
           settled = w.settled;
           may = w.may;

@@ -24,11 +24,10 @@ use Rattle.ada_typed.proofs.Bodies.{seen_as, seen_fits}
 use Rattle.ada_scopes.specs.Scopes.{NestsWhereOpen, AllNestWhereOpen, OperationsNest}
 use Rattle.ada_quiet.specs.Apart.{is_this_one, is_adjust_of}
 use Rattle.ada_quiet.specs.Quiet.{is_quiet_stmt, are_quiet, are_quiet_branches, are_quiet_handlers, are_quiet_declarations, is_plain_body, is_quiet_body, is_plain_procedure, is_quiet_procedure, is_plain_operation, is_quiet_operation, has_access, operation_body}
-use Rattle.ada_quiet.specs.Frugal.{is_frugal_body, frugal_procedures, thrift_of, is_frugal_operation}
+use Rattle.ada_quiet.specs.Frugal.{is_frugal_body, frugal_operations, thrift_of, is_frugal_operation}
 use Rattle.ada_quiet.specs.InUse.{may_be_frugal, uses_initialize, uses_finalize, uses_operations, operations_may_be_called, adjusts_alone, adjusts_nothing, may_track, uses_adjust, uses_called_adjust}
 use Rattle.ada_quiet.specs.Idle.{copies_parts}
 use Rattle.ada_quiet.specs.Simple.{is_simple_body, is_simple_procedure, is_simple_operation}
-use Rattle.ada_quiet.proofs.FrugalAt.{frugal_at}
 use Rattle.ada_quiet.proofs.InUse.{plain_procedure, plain_operation}
 use Rattle.ada_sound.proofs.Exits.{no_exits, no_exit_handlers}
 use Rattle.ada_sound.proofs.OperationStarts.{apart}
@@ -36,7 +35,8 @@ use Rattle.ada_parts.specs.Part as parts
 use Rattle.ada_meaning.specs.declared.event.Birth.TheVariants.{Creation, Copy, Adjustment}
 use Rattle.ada_meaning.specs.declared.event.Cause.{Cause}
 use Rattle.ada_meaning.specs.Frame.{Treatment, begins, ends}
-use Rattle.ada_sound.proofs.FrugalBodies.{frugal_nests}
+use Rattle.ada_quiet.proofs.FrugalAt.{operation_at}
+use Rattle.ada_sound.proofs.OperationNests.{operation_nests}
 use Rattle.ada_sound.proofs.SimpleBodies.{simple_nests, simple_with}
 use Rattle.ada_sound.proofs.Operating.{IsCalled, PlainBody}
 
@@ -137,7 +137,7 @@ module _ (p : ProgramForm) where
 
   -- A procedure is frugal, where that may be.
   abbrev pub IsFrugal : ℕ → Type 0
-  IsFrugal number = (may_be_frugal p ≡ true) × (slice_index_or (frugal_procedures p) number false ≡ true)
+  IsFrugal number = (may_be_frugal p ≡ true) × (slice_index_or (frugal_operations p) number false ≡ true)
 
   abbrev pub IsSimple : ℕ → Type 0
   IsSimple number = (may_track p ≡ true) × (is_simple_procedure p.types (adjusts_alone p) (slice_get p.bodies number) ≡ true)
@@ -166,7 +166,7 @@ module _ (p : ProgramForm) where
   not_quiet (Some procedure) number other is = let same : procedure.0 ≡ number = cc is in rw same at other
 
   frugal_one : (o : Option ProcedureNo) (number : ℕ) → is_frugal_operation p o ≡ true → procedure_number o ≡ Some number
-      → slice_index_or (frugal_procedures p) number false ≡ true
+      → slice_index_or (frugal_operations p) number false ≡ true
   frugal_one None number frugal is = absurd (cc is)
   frugal_one (Some procedure) number frugal is = let same : procedure.0 ≡ number = cc is in rw same at frugal
 
@@ -304,25 +304,25 @@ module _ (p : ProgramForm) where
       let b = there_one t (Some procedure) procedure.0 right refl in
       λ around all. nests_there procedure.0 b.0 b.1 (λ callees around'. body_is p.types callees b.0 around' (rw (b.1) at plain)) around
 
-  initialize_nests : (t : ℕ) (o : Option ProcedureNo) → overrides_rightly p.types (callable_in p) t o ≡ true → uses_initialize p o ≡ true → Nests o
-  initialize_nests t None right uses = tt
-  initialize_nests t (Some procedure) right uses = by (initialize_one (Some procedure) procedure.0 uses refl)
+  initialize_nests : IsWellFormed p → (t : ℕ) (o : Option ProcedureNo) → overrides_rightly p.types (callable_in p) t o ≡ true → uses_initialize p o ≡ true → Nests o
+  initialize_nests well t None right uses = tt
+  initialize_nests well t (Some procedure) right uses = by (initialize_one (Some procedure) procedure.0 uses refl)
     where
       by : IsPlain procedure.0 ⊎ (IsFrugal procedure.0 × IsNotPlain procedure.0) → Nests (Some procedure)
       by (inl plain) = plain_nests t (Some procedure) right plain
-      by (inr both) = frugal_nests p procedure.0 both.0.1
+      by (inr both) = operation_nests p well procedure.0 both.0.1
 
-  finalize_nests : (t : ℕ) (o : Option ProcedureNo) → overrides_rightly p.types (callable_in p) t o ≡ true → uses_finalize p o ≡ true → Nests o
-  finalize_nests t None right uses = tt
-  finalize_nests t (Some procedure) right uses = by (finalize_one (Some procedure) procedure.0 uses refl)
+  finalize_nests : IsWellFormed p → (t : ℕ) (o : Option ProcedureNo) → overrides_rightly p.types (callable_in p) t o ≡ true → uses_finalize p o ≡ true → Nests o
+  finalize_nests well t None right uses = tt
+  finalize_nests well t (Some procedure) right uses = by (finalize_one (Some procedure) procedure.0 uses refl)
     where
       by : IsQuiet procedure.0 ⊎ (IsFrugal procedure.0 × IsNotQuiet procedure.0) → Nests (Some procedure)
       by (inl quiet) = plain_nests t (Some procedure) right (plain_operation p (Some procedure) quiet)
-      by (inr both) = frugal_nests p procedure.0 both.0.1
+      by (inr both) = operation_nests p well procedure.0 both.0.1
 
-  adjust_nests : (t : ℕ) (owns : Bool) (o : Option ProcedureNo) → overrides_rightly p.types (callable_in p) t o ≡ true → uses_adjust p owns o ≡ true → Nests o
-  adjust_nests t owns None right uses = tt
-  adjust_nests t owns (Some procedure) right uses = either (or_cases (adjusts_nothing p && is_frugal_operation p (Some procedure)) (uses_called_adjust p owns (Some procedure)) uses)
+  adjust_nests : IsWellFormed p → (t : ℕ) (owns : Bool) (o : Option ProcedureNo) → overrides_rightly p.types (callable_in p) t o ≡ true → uses_adjust p owns o ≡ true → Nests o
+  adjust_nests well t owns None right uses = tt
+  adjust_nests well t owns (Some procedure) right uses = either (or_cases (adjusts_nothing p && is_frugal_operation p (Some procedure)) (uses_called_adjust p owns (Some procedure)) uses)
     where
       by : IsQuiet procedure.0 ⊎ (IsSimple procedure.0 × (owns ≡ true)) → Nests (Some procedure)
       by (inl quiet) = plain_nests t (Some procedure) right (plain_operation p (Some procedure) quiet)
@@ -332,25 +332,25 @@ module _ (p : ProgramForm) where
           λ around all. nests_there procedure.0 b.0 b.1 (λ callees around'. simple_nests p.types callees b.0 around' simple) around
 
       either : ((adjusts_nothing p && is_frugal_operation p (Some procedure)) ≡ true) ⊎ (uses_called_adjust p owns (Some procedure) ≡ true) → Nests (Some procedure)
-      either (inl nothing) = frugal_nests p procedure.0 (apart (adjusts_nothing p) (is_frugal_operation p (Some procedure)) nothing).1
+      either (inl nothing) = operation_nests p well procedure.0 (apart (adjusts_nothing p) (is_frugal_operation p (Some procedure)) nothing).1
       either (inr called) = by (adjust_one owns (Some procedure) procedure.0 called refl)
 
-  nests_three : (t : ℕ) (owns : Bool) (f : Option Finalization) → has_operations p.types (callable_in p) t f ≡ true → uses_operations p owns f ≡ true → AllNest (operations_in f)
-  nests_three t owns None right uses = (tt, tt, tt)
-  nests_three t owns (Some f) right uses =
+  nests_three : IsWellFormed p → (t : ℕ) (owns : Bool) (f : Option Finalization) → has_operations p.types (callable_in p) t f ≡ true → uses_operations p owns f ≡ true → AllNest (operations_in f)
+  nests_three well t owns None right uses = (tt, tt, tt)
+  nests_three well t owns (Some f) right uses =
       let two = apart _ _ right in
       let three = apart _ _ two.0 in
       let uses_two = apart _ _ uses in
       let uses_three = apart _ _ uses_two.0 in
-      (initialize_nests t f.operations.initialize three.0 uses_three.0, adjust_nests t owns f.operations.adjust three.1 uses_three.1, finalize_nests t f.operations.finalize two.1 uses_two.1)
+      (initialize_nests well t f.operations.initialize three.0 uses_three.0, adjust_nests well t owns f.operations.adjust three.1 uses_three.1, finalize_nests well t f.operations.finalize two.1 uses_two.1)
 
-  nests_at : (ts : List TypeForm) (n i : ℕ) → have_operations p.types (callable_in p) n ts ≡ true → list_all (λ t. uses_operations p (has_access (Some t)) (finalization_in (Some t))) ts ≡ true → AllNest (operations_in (finalization_in (slice_get ts i)))
-  nests_at [] n i right uses = (tt, tt, tt)
-  nests_at (t ∷ ts) n zero right uses = nests_three n (has_access (Some t)) (finalization_in (Some t)) (apart _ _ right).0 (apart _ _ uses).0
-  nests_at (t ∷ ts) n (suc i) right uses = nests_at ts (1 + n) i (apart _ _ right).1 (apart _ _ uses).1
+  nests_at : IsWellFormed p → (ts : List TypeForm) (n i : ℕ) → have_operations p.types (callable_in p) n ts ≡ true → list_all (λ t. uses_operations p (has_access (Some t)) (finalization_in (Some t))) ts ≡ true → AllNest (operations_in (finalization_in (slice_get ts i)))
+  nests_at well [] n i right uses = (tt, tt, tt)
+  nests_at well (t ∷ ts) n zero right uses = nests_three well n (has_access (Some t)) (finalization_in (Some t)) (apart _ _ right).0 (apart _ _ uses).0
+  nests_at well (t ∷ ts) n (suc i) right uses = nests_at well ts (1 + n) i (apart _ _ right).1 (apart _ _ uses).1
 
   pub operations_nest : IsWellFormed p → operations_may_be_called p ≡ true → OperationsNest p
-  operations_nest well uses t = nests_at p.types 0 t well.operations_fit uses
+  operations_nest well uses t = nests_at well p.types 0 t well.operations_fit uses
 
 -- The body of a procedure lets no exception out, unless it initializes a new object (7.6).
 abbrev pub LetsNothingOut : Treatment → BodyForm → Type 0
@@ -441,11 +441,11 @@ module _ (program : Program) (uses : operations_may_be_called (program_form prog
 
   finalizes_as : (cause : Cause) → IsQuiet whole number ⊎ (IsFrugal whole number × IsNotQuiet whole number) → IsUsedAs whole of number (ends cause) b
   finalizes_as cause (inl quiet) = inl (quiet_body quiet)
-  finalizes_as cause (inr both) = inr (inl (tt, both.0.0, frugal_at whole number b both.0.1 there, rw there at both.1))
+  finalizes_as cause (inr both) = inr (inl (tt, both.0.0, operation_at whole number b both.0.1 there, rw there at both.1))
 
   initializes_as : (done : List parts.Part) → IsPlain whole number ⊎ (IsFrugal whole number × IsNotPlain whole number) → IsUsedAs whole of number (begins Creation done) b
   initializes_as done (inl plain) = inl (plain_body plain, tt)
-  initializes_as done (inr both) = inr (inl (tt, both.0.0, frugal_at whole number b both.0.1 there, rw there at both.1))
+  initializes_as done (inr both) = inr (inl (tt, both.0.0, operation_at whole number b both.0.1 there, rw there at both.1))
 
   adjusts_as : (treatment : Treatment) → AdjustsCopy treatment → (body_raises no_calls b (λ e. true) ≡ false → LetsNothingOut treatment b)
       → IsQuiet whole number ⊎ (IsSimple whole number × AdjustsOwn whole.types of number) → IsUsedAs whole of number treatment b

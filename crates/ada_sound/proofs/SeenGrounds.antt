@@ -13,6 +13,7 @@ use Rattle.ada_finalized.proofs.Twice.{operated_exist}
 use Rattle.ada_finalized.specs.Law.{NamesExisting, NoOperationRuns, NoOperationRunsOn, NothingBegins}
 use Rattle.ada_idle.proofs.Idle.{ControlIsIdle}
 use Rattle.ada_idle.proofs.Unadjusted.{AdjustsNone}
+use Rattle.ada_meaning.specs.declared.event.Cause.TheVariants.{Assigning}
 use Rattle.ada_meaning.specs.declared.event.Halt.{Halt}
 use Rattle.ada_meaning.specs.declared.event.Halt.TheVariants.{Erroneous}
 use Rattle.ada_meaning.specs.declared.event.Why.TheVariants.{FinalizesTwice}
@@ -374,6 +375,11 @@ module _ (program : Program) {access item : ℕ} {pool : Option ℕ} {ghosts : I
             let here : s.control ≡ frame.Treats w treatment tasks ∷ k = sym (seen_control seen) ∙ is in
             grounds.exist w treatment tasks k here alone
             (halts_so ghosts (next tds bodies s) (next tds bodies v) (Erroneous FinalizesTwice) (steps_alike tds bodies none_hidden ghosts s v (untouched w treatment tasks k here) seen.alike) twice);
+        assigned = λ w number tasks first t k is alone twice.
+            let here : s.control ≡ frame.Treats w (frame.ends (Assigning number)) tasks ∷ frame.Copies first t ∷ k = sym (seen_control seen) ∙ is in
+            grounds.assigned w number tasks first t k here alone
+            (halts_so ghosts (next tds bodies s) (next tds bodies v) (Erroneous FinalizesTwice)
+            (steps_alike tds bodies none_hidden ghosts s v (untouched w (frame.ends (Assigning number)) tasks (frame.Copies first t ∷ k) here) seen.alike) twice);
         untreated_end = λ still w u cause tasks k is. grounds.untreated_end (subst NoOperationRuns (seen_control seen) still) w u cause tasks k (sym (seen_control seen) ∙ is);
         untreated_start = λ still w by done tasks k is. grounds.untreated_start (subst NoOperationRuns (seen_control seen) still) w by done tasks k (sym (seen_control seen) ∙ is);
         adjusts_alone = λ still w cause tasks first t k is. grounds.adjusts_alone (subst NoOperationRuns (seen_control seen) still) w cause tasks first t k (sym (seen_control seen) ∙ is);

@@ -1,19 +1,24 @@
 -- Frugal bodies are of the shape of bodies that shun access types (3.10). They call such procedures alone; and where they use no value of a type, neither does
 -- what they call, nor the start of what they allocate or declare, nor the end of what they free or declare (4.1, 4.8, 7.6, 7.6.1, 13.11.2).
 
-use Rattle.std.proofs.Common.{◌≡◌, ℕ, Bool, true, false, not, ◌==◌, ◌&&◌, ◌||◌, List, [], ◌∷◌, length, Option, Some, None, refl, sym, subst}
+use Rattle.std.proofs.Common.{◌≡◌, ℕ, Bool, true, false, not, ◌==◌, ◌&&◌, ◌||◌, if◌then◌else◌, List, [], ◌∷◌, length, Option, Some, None, refl, sym, subst}
 use Rattle.std.specs.Prelude.{nat_lt, is_some}
 use Rattle.std.specs.List.{list_all, slice_index_or}
 use Rattle.std.proofs.lemmas.Bool.{and_from, and_parts, or_parts, or_right}
+use Rattle.ada_effects.specs.Effects.{record_path_raises}
+use Rattle.ada_program.specs.declared.program.Finalization.{Finalization}
 use Rattle.ada_program.specs.declared.program.ScalarType.TheVariants.{Integer, Boolean}
 use Rattle.ada_program.specs.declared.program.VariableKind.{VariableKind}
 use Rattle.ada_program.specs.declared.program.VariableKind.TheVariants as variable
 use Rattle.ada_program.specs.Form.{PathForm, RecordPathForm, ActualForm, in_value, in_null, in_access, in_record, in_out_path, in_out_access, in_out_component, in_out_record, ExpressionForm, integer, boolean, reads, is_null, applied_to, chained, LinksForm, no_more_links, a_link, ItemForm, null_item, item_of_path, item_of_value, item_of_record, RightForm, nothing, value_of, allocates, allocates_default, computes, DeclarationForm, creates_pool, collects, declares, declares_record, StmtForm, skips, assigns, assigns_record, frees, gets, writes, writes_text, chooses, repeats, counts, exits, calls, returns, raises, encloses, StmtsForm, no_stmts, a_stmt, BranchesForm, otherwise, a_branch, HandlersForm, no_handlers, a_handler}
+use Rattle.ada_program.specs.Nested.{collected, record_nests}
 use Rattle.ada_program.specs.ProgramForm.{TypeForm, VariableForm, BodyForm, ProgramForm, seen_by}
 use Rattle.ada_program.specs.WellFormed.{Profile, callable_in, choice_fits, collection_fits, collections_first, condition_fits, declarations_fit, designated_type, finalization_of, has_statement, has_type, initial_fits, is_borrower, is_record_object, is_type, lends_to, names_before, names_borrower, object_named, path_kind, record_initial_fits, right_fits, scalar_of, selected_kind, statement_fits, stmts_fit, branches_fit, handlers_fit, type_fits, value_access, variable_fits, variable_kind}
 use Rattle.ada_quiet.specs.Bare.{has_bare_objects}
+use Rattle.ada_quiet.specs.Idle.{holds_parts}
 use Rattle.ada_quiet.specs.Apart.{is_bare_item}
-use Rattle.ada_quiet.specs.Frugal.{allocates_frugally, thrift_of, frugal_procedures, is_frugal_declaration, are_frugal_declarations, is_frugal_stmt, are_frugal, are_frugal_branches, are_frugal_handlers, is_frugal_body}
+use Rattle.ada_quiet.specs.Calm.{inert_types, is_known_calm}
+use Rattle.ada_quiet.specs.Frugal.{assigns_at_hand, allocates_frugally, is_bare_initial, thrift_of, frugal_procedures, is_frugal_declaration, are_frugal_declarations, is_frugal_stmt, are_frugal, are_frugal_branches, are_frugal_handlers, is_frugal_body}
 use Rattle.ada_deeds.specs.declared.deed.Callee.{Callee}
 use Rattle.ada_deeds.specs.declared.deed.Callee.TheVariants as callee
 use Rattle.ada_deeds.specs.declared.deed.Deed.{Deed}
@@ -24,7 +29,7 @@ use Rattle.ada_deeds.specs.Implicit.{record_at}
 use Rattle.ada_deeds.specs.Within.{does_by}
 use Rattle.ada_deeds.proofs.Naming.{KindFits, access_at, default_access, left_holds, object_at, object_type, path_fits_kind, right_holds, variable_fits_kind}
 use Rattle.ada_reaching.specs.Apart.{Apart}
-use Rattle.ada_reaching.specs.Forms.{may_follow, may_end, selectors_shun, path_shuns, record_path_shuns, expression_shuns, links_shun, condition_shuns, item_shuns, right_shuns, actual_shuns, declaration_shuns, declarations_shun, statement_shuns, statements_shun, branches_shun, handlers_shun, body_shuns}
+use Rattle.ada_reaching.specs.Forms.{may_assign, may_follow, may_end, selectors_shun, path_shuns, record_path_shuns, expression_shuns, links_shun, condition_shuns, item_shuns, right_shuns, actual_shuns, declaration_shuns, declarations_shun, statement_shuns, statements_shun, branches_shun, handlers_shun, body_shuns}
 use Rattle.ada_typed.proofs.Bodies.{SeenFits}
 
 -- Frugal bodies are of the shape of bodies that shun types.
@@ -159,9 +164,13 @@ module _ (p : ProgramForm) (u : ℕ) where
   abbrev pub StartsSpared : Apart → Type 0
   StartsSpared apart = (t : ℕ) → Spares p u (λ d. creation_does (does_by p d) (record_at p.types t)) → apart.starts t ≡ true
 
+  -- and records of each inert type may be assigned to as wholes.
+  abbrev pub AssignsInert : Apart → Type 0
+  AssignsInert apart = (t : ℕ) → is_known_calm (inert_types p.types) (finalization_of p.types t) ≡ true → apart.assigns t ≡ true
+
   -- So it is with those that a body of a well-formed program goes by.
   module _
-      (apart : Apart) (marked : CallsFrugal apart) (ended : EndsSpared apart) (started : StartsSpared apart)
+      (apart : Apart) (marked : CallsFrugal apart) (ended : EndsSpared apart) (started : StartsSpared apart) (quietly : AssignsInert apart)
       (types_fit : list_all (type_fits p.types) p.types ≡ true) (variables : List VariableForm)
       (variables_fit : list_all (variable_fits p.types) variables ≡ true) (texts exceptions : List (List ℕ)) (callable : List Profile) where
     -- What a value names may be freed, where its end is no use.
@@ -216,7 +225,12 @@ module _ (p : ProgramForm) (u : ℕ) where
         let begun = λ (d : Deed). parts_do (does_by p d) Initialize (record_at p.types object) in
         let undone = λ (d : Deed). parts_do (does_by p d) Finalize (record_at p.types object) in
         and_from (apart.starts object) (apart.ends object) (started object created) (ended object (second begun undone created))
-    declaration_shaped (declares_record x object (Some items)) fits is spares = absurd (cc is)
+    -- One without controlled parts starts with what its items are.
+    declaration_shaped (declares_record x object (Some items)) fits is spares =
+        let bare = (and_parts (record_nests p.types (collected p.declarations) object) (is_bare_initial p.types object items) is).1 in
+        let test = item_shuns p.types (λ t. false) apart variables in
+        and_from (not (holds_parts p.types object)) (list_all test items)
+        (and_parts (not (holds_parts p.types object)) (list_all (is_bare_item p.types) items) bare).0 (all_so test (item_shaped p.types apart variables) items)
 
     -- So have all declarations of such a body.
     declarations_shaped :
@@ -286,10 +300,23 @@ module _ (p : ProgramForm) (u : ℕ) where
       statement_shaped inside (assigns_record target items) fits frugal spares =
           let leads = record_path_shuns p.types (λ t. false) apart variables target in
           let test = item_shuns p.types (λ t. false) apart variables in
-          and_from (leads && list_all test items) (not (is_some (finalization_of p.types target.record_type)))
+          and_from (leads && list_all test items) (may_assign p.types apart target.record_type)
           (and_from leads (list_all test items) (record_path_shaped p.types apart variables target)
           (all_so test (item_shaped p.types apart variables) items))
-          (and_parts (not (is_some (finalization_of p.types target.record_type))) (list_all (is_bare_item p.types) items) frugal).0
+          (assigned (finalization_of p.types target.record_type) refl frugal)
+        where
+          -- A record is of a type without controlled parts, or of an inert one, which may be assigned to as a whole.
+          assigned :
+              (f : Option Finalization) → finalization_of p.types target.record_type ≡ f
+              → (if is_some f then assigns_at_hand (thrift_of p) target else list_all (is_bare_item p.types) items) ≡ true
+              → (not (is_some f) || apart.assigns target.record_type) ≡ true
+          assigned None is h = refl
+          assigned (Some f) is h =
+              let calm = is_known_calm (inert_types p.types) (finalization_of p.types target.record_type) in
+              let near = not (record_path_raises target) in
+              let three = and_parts (true && calm && near) (target.object.root == 0 && not (target.part == 0)) h in
+              let two = and_parts (true && calm) near three.0 in
+              quietly target.record_type (and_parts true calm two.0).1
       statement_shaped inside (frees access path) fits frugal spares =
           let leads = path_shuns p.types (λ t. false) apart variables path in
           let kind = path_kind p.types variables path in
@@ -395,13 +422,13 @@ module _ (p : ProgramForm) (u : ℕ) where
 
   -- So has such a body, as the program that it sees fits.
   pub body_shaped :
-      (apart : Apart) → CallsFrugal apart → EndsSpared apart → StartsSpared apart → (number : ℕ) (b : BodyForm) → SeenFits (seen_by number b p)
+      (apart : Apart) → CallsFrugal apart → EndsSpared apart → StartsSpared apart → AssignsInert apart → (number : ℕ) (b : BodyForm) → SeenFits (seen_by number b p)
       → is_frugal_body (thrift_of p) b ≡ true → Spares p u (λ d. body_does p.types (does_by p d) d b) → body_shuns p.types (λ t. false) apart b ≡ true
-  body_shaped apart marked ended started number b fits =
+  body_shaped apart marked ended started quietly number b fits =
       let callable = callable_in (seen_by number b p) in
-      master_shaped apart marked ended started fits.types_fit b.variables fits.variables_fit p.texts p.exceptions callable b.declarations b.statements
+      master_shaped apart marked ended started quietly fits.types_fit b.variables fits.variables_fit p.texts p.exceptions callable b.declarations b.statements
       b.handlers fits.initials_fit
-      (statements_shaped apart marked ended started fits.types_fit b.variables fits.variables_fit p.texts p.exceptions callable false b.statements
+      (statements_shaped apart marked ended started quietly fits.types_fit b.variables fits.variables_fit p.texts p.exceptions callable false b.statements
       fits.statements_fit)
-      (handlers_shaped apart marked ended started fits.types_fit b.variables fits.variables_fit p.texts p.exceptions callable false b.handlers
+      (handlers_shaped apart marked ended started quietly fits.types_fit b.variables fits.variables_fit p.texts p.exceptions callable false b.handlers
       fits.handlers_fit)

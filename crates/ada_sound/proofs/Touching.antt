@@ -38,7 +38,7 @@ use Rattle.ada_sound.proofs.Invariant.{SparesHolder, body_among, CoveredIn, Cont
 use Rattle.ada_sound.proofs.Operating.{WaitsFor, IsCalm, lets_out}
 use Rattle.ada_sound.proofs.Stored.{Stored}
 use Rattle.ada_sound.specs.Agreement.{running_procedure}
-use Rattle.ada_finalized.specs.Law.{NothingBegins}
+use Rattle.ada_finalized.specs.Law.{NoOperationRunsOn, NothingBegins}
 use Rattle.ada_meaning.specs.declared.event.Cause.{Cause}
 use Rattle.ada_meaning.specs.Step.{first_or, operands_of}
 use Rattle.ada_owners.specs.Places.{access_at, is_there}
@@ -427,6 +427,7 @@ pub record Within (program : Program) (gs : List Suspension) (s : State) : Type 
       (Some outermost.number) (origin program (length inner) s outermost ∷ outermost.suspensions) inner
   pub frugal : Frugally (allowance_of (program_form program)) outermost.lower outermost.behind (operated_among inner) s
   pub untreated : (v : Value) → v ≢ Names outermost.object → NothingBegins v outermost.after
+  pub alone : NoOperationRunsOn (Names outermost.object) outermost.after
   pub calm : IsCalm (behind_call outermost.behind)
   pub settled : under_in (callers_of program outermost.suspensions) ≡ []
   pub may : may_be_frugal (program_form program) ≡ true

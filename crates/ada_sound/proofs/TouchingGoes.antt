@@ -108,6 +108,7 @@ module _ (program : Program) (s : State) (f : Touching program s) where
     within = are;
     frugal = goes;
     untreated = w.untreated;
+    alone = w.alone;
     calm = w.calm;
     settled = w.settled;
     may = w.may;

@@ -2,7 +2,7 @@
 -- and of those that are treated. None of those is freed meanwhile (13.11.2): what is finalized is of no type that is freed, and what is initialized is owned outside
 -- of the body that frees.
 
-use Rattle.std.proofs.Common.{◌≡◌, ℕ, suc, Bool, true, false, List, [], ◌∷◌, ◌++◌, length, refl, sym, ap, ◌∙◌, subst, ◌⊎◌, inl, inr, ◌≢◌, Option, Some}
+use Rattle.std.proofs.Common.{◌≡◌, ℕ, suc, Bool, true, false, if◌then◌else◌, List, [], ◌∷◌, ◌++◌, length, refl, sym, ap, ◌∙◌, subst, ◌⊎◌, inl, inr, ◌≢◌, Option, Some, None, slice_get, ◌==◌}
 use Rattle.std.proofs.lemmas.Bool.{and_parts, false_from_ne_true}
 use Rattle.ada_deeds.specs.Implicit.{implicit_of}
 use Rattle.ada_program.specs.declared.program.Program.{Program}
@@ -10,23 +10,35 @@ use Rattle.ada_program.specs.declared.program.TypeDefinition.{TypeDefinition}
 use Rattle.ada_program.specs.ProgramForm.{TypeForm, BodyForm, ProgramForm, program_form, body_forms, seen_in}
 use Rattle.ada_program.specs.WellFormed.{is_access}
 use Rattle.ada_flow.specs.Flow.{Holds}
-use Rattle.ada_parts.specs.Task.{Task}
+use Rattle.ada_parts.specs.declared.tasks.Next.{Next as NextTask}
+use Rattle.ada_parts.specs.declared.tasks.Next.TheVariants.{Done, Pick, Perform}
+use Rattle.ada_parts.specs.Part as parts
+use Rattle.ada_parts.specs.Task.{Task, performed, next as task_next}
+use Rattle.ada_program.specs.Controlled.{operations_of, shapes_of}
+use Rattle.ada_program.specs.Form.{ActualForm}
+use Rattle.ada_assigned.specs.Law.{RunsAlone}
 use Rattle.ada_finalized.specs.Law.{NothingBegins, NoOperationRuns, NoOperationRunsOn, finalized_before}
 use Rattle.ada_meaning.specs.declared.event.Cause.TheVariants.{Leaving, Freeing, Assigning, Undoing}
+use Rattle.ada_meaning.specs.declared.event.Birth.{Birth}
+use Rattle.ada_meaning.specs.declared.event.Birth.TheVariants.{Creation, Copy, Adjustment}
 use Rattle.ada_meaning.specs.declared.event.Cause.{Cause}
-use Rattle.ada_meaning.specs.declared.event.Halt.TheVariants.{Erroneous}
+use Rattle.ada_meaning.specs.Event.{Quiet}
+use Rattle.ada_meaning.specs.declared.event.Halt.TheVariants.{Erroneous, Stuck}
 use Rattle.ada_meaning.specs.declared.event.Why.TheVariants.{FinalizesTwice}
 use Rattle.ada_meaning.specs.declared.state.Id.{Id}
 use Rattle.ada_meaning.specs.declared.state.Mode.{Mode}
+use Rattle.ada_meaning.specs.declared.state.Stage.{Stage}
+use Rattle.ada_meaning.specs.declared.state.Stage.TheVariants.{Building, Existing, Gone}
+use Rattle.ada_owners.specs.Places.{is_there}
 use Rattle.ada_meaning.specs.declared.state.Mode.TheVariants.{Running, Raising, Exiting, Returning}
 use Rattle.ada_meaning.specs.declared.state.Value.{Value}
 use Rattle.ada_meaning.specs.declared.state.Value.TheVariants.{Names}
-use Rattle.ada_meaning.specs.Heap.{Home}
+use Rattle.ada_meaning.specs.Heap.{Home, Cell, Found, on_null, on_gone, on_other, finds, PartState}
 use Rattle.ada_meaning.specs.Frame.{Frame, ends, Treatment, begins}
 use Rattle.ada_meaning.specs.Frame as frame
 use Rattle.ada_meaning.specs.State.{Master}
-use Rattle.ada_meaning.specs.Step.{treating}
-use Rattle.ada_meaning.specs.Named.{State, Object, object_at, next}
+use Rattle.ada_meaning.specs.Step.{beginning, begun_next, direction_of, halts, operands, operation_next, part_reference, performed_next, picked_task, picks, places, treated_on, treating, treats_next}
+use Rattle.ada_meaning.specs.Named.{State, Object, existing, look, named, object_at, next, seen}
 use Rattle.ada_meaning.specs.Run.{Halts}
 use Rattle.ada_typed.proofs.Bodies.{own_bodies}
 use Rattle.ada_typed.proofs.Kept.{behind_call}
@@ -39,12 +51,12 @@ use Rattle.ada_scopes.specs.Scopes.{is_innermost}
 use Rattle.ada_sound.proofs.Fits.{IsOwnedAmong, IsOwnedOutside, IsReferred, Outsiders, Reference, referred_behind, referred_first}
 use Rattle.ada_sound.proofs.FreesCovered.{frees_among}
 use Rattle.ada_sound.proofs.Allowance.{Allowance, allowance_of}
-use Rattle.ada_sound.proofs.FrugalControl.{Frugal, FrugalLeads, FrugalLeaves, FrugalOperated, begins_first, none_operated, operated_in}
+use Rattle.ada_sound.proofs.FrugalControl.{Frugal, FrugalBegins, FrugalLeads, FrugalLeaves, FrugalOperated, IsAdjusted, IsAssigned, IsInside, begins_first, none_operated, operated_in, own_in, waits_first}
 use Rattle.ada_sound.proofs.FrugalFrees.{LeftAlone}
 use Rattle.ada_sound.proofs.Leavings.{NamedBelow}
 use Rattle.ada_sound.proofs.Grounds.{Grounds, may_free}
 use Rattle.ada_sound.proofs.Homes.{NoneIsUnder}
-use Rattle.ada_sound.proofs.Invariant.{AllWait, Control, CoveredIn, Known, Ready, Rooms, outer_in, outers, referenced_in, under_in, waits_covers}
+use Rattle.ada_sound.proofs.Invariant.{AllWait, Control, CoveredIn, Known, Ready, ReadyIn, Rooms, outer_in, outers, referenced_in, under_in, waits_covers}
 use Rattle.ada_sound.proofs.Operating.{IsCalm, WaitsFor}
 use Rattle.ada_sound.proofs.Returns.{same_types}
 use Rattle.ada_sound.proofs.SparesOwn.{spares_end}
@@ -79,6 +91,8 @@ module _ (frugal : Allowance) where
     leads_begin v behind among (frame.Closes ∷ k) (m ∷ ms) apart none q = leads_begin v behind among k ms apart none q.1
     leads_begin v behind among (frame.Declares x ∷ k) [] apart none q = absurd q
     leads_begin v behind among (frame.Declares x ∷ k) (m ∷ ms) apart none q = leads_begin v behind among k (m ∷ ms) apart none q.1
+    leads_begin v behind among (frame.DeclaresRecord x t ∷ k) [] apart none q = absurd q
+    leads_begin v behind among (frame.DeclaresRecord x t ∷ k) (m ∷ ms) apart none q = leads_begin v behind among k (m ∷ ms) apart none q.1
     leads_begin v behind among (frame.Treats w (begins by done) tasks ∷ k) ms apart none q = absurd q.0.0
     leads_begin v behind among (frame.Treats w (ends cause) tasks ∷ k) ms apart none q = leads_begin v behind among k ms apart none q.1
     leads_begin v behind among (frame.Awaits w by done of part tasks ∷ k) ms apart none q = absurd q.0
@@ -112,15 +126,25 @@ module _ (frugal : Allowance) where
     )
     operated_begin v behind among (f ∷ k) ms apart none q = absurd q
 
+  -- So it is where a record is assigned to, of which nothing is adjusted.
+  begins_begin :
+      (v : Value) (behind : Control) (among : List Value) (k : Control) (ms : List Master) → begins_first k ≡ false → (IsAmong v among → ⊥)
+      → NothingBegins v behind → FrugalBegins frugal behind among k ms → NothingBegins v k
+  begins_begin v behind among [] ms other apart none q = absurd q
+  begins_begin v behind among (frame.Treats w (begins by done) tasks ∷ k) ms other apart none q = absurd (cc other)
+  begins_begin v behind among (frame.Treats w (ends cause) tasks ∷ k) ms other apart none q = begins_begin v behind among k ms other apart none q.1
+  begins_begin v behind among (frame.Awaits w by done of part tasks ∷ k) ms other apart none q = absurd (cc other)
+  begins_begin v behind among (frame.Copies first t ∷ k) ms other apart none q = begins_begin v behind among k ms other apart none q
+  begins_begin v behind among (frame.StoresRecord w first count ∷ k) ms other apart none (inl q) = begins_begin v behind among k ms other apart none q
+  begins_begin v behind among (frame.StoresRecord w first count ∷ k) ms other apart none (inr q) = leads_begin v behind among k ms apart none q
+  begins_begin v behind among (f ∷ k) ms other apart none q = absurd q
+
   frugal_begin :
       (v : Value) (behind : Control) (among : List Value) (mode : Mode) (k : Control) (ms : List Master) → begins_first k ≡ false → (IsAmong v among → ⊥)
       → NothingBegins v behind → Frugal frugal behind among mode k ms → NothingBegins v k
   frugal_begin v behind among mode k ms other apart none (inl q) = leads_begin v behind among k ms apart none q
   frugal_begin v behind among mode k ms other apart none (inr (inl leaving)) = leaves_begin v behind among k ms apart none leaving.1
-  frugal_begin v behind among mode [] ms other apart none (inr (inr beginning)) = absurd beginning.1
-  frugal_begin v behind among mode (frame.Treats w (begins by done) tasks ∷ k) ms other apart none (inr (inr beginning)) = absurd (cc other)
-  frugal_begin v behind among mode (frame.Awaits w by done of part tasks ∷ k) ms other apart none (inr (inr beginning)) = absurd (cc other)
-  frugal_begin v behind among mode (f ∷ k) ms other apart none (inr (inr beginning)) = absurd beginning.1
+  frugal_begin v behind among mode k ms other apart none (inr (inr beginning)) = begins_begin v behind among k ms other apart none beginning.1
 
   mutual
     -- Where no operation of an object runs, none does behind that end.
@@ -137,6 +161,8 @@ module _ (frugal : Allowance) where
     leads_alone v behind among (frame.Closes ∷ k) (m ∷ ms) none q = leads_alone v behind among k ms none q.1
     leads_alone v behind among (frame.Declares x ∷ k) [] none q = absurd q
     leads_alone v behind among (frame.Declares x ∷ k) (m ∷ ms) none q = leads_alone v behind among k (m ∷ ms) none q.1
+    leads_alone v behind among (frame.DeclaresRecord x t ∷ k) [] none q = absurd q
+    leads_alone v behind among (frame.DeclaresRecord x t ∷ k) (m ∷ ms) none q = leads_alone v behind among k (m ∷ ms) none q.1
     leads_alone v behind among (frame.Awaits w by done of part tasks ∷ k) ms none q = absurd q.0
     leads_alone v behind among (frame.Confines ∷ k) ms none q = leads_alone v behind among k ms none.1 q.1
     leads_alone v behind among (f ∷ k) ms none q = leads_alone v behind among k ms none q.1
@@ -177,6 +203,8 @@ module _ (frugal : Allowance) where
     operated_runs v behind among (frame.Closes ∷ k) (m ∷ ms) is q none = operated_runs v behind among k ms is q.1 none
     operated_runs v behind among (frame.Declares x ∷ k) [] is q none = q
     operated_runs v behind among (frame.Declares x ∷ k) (m ∷ ms) is q none = operated_runs v behind among k (m ∷ ms) is q.1 none
+    operated_runs v behind among (frame.DeclaresRecord x t ∷ k) [] is q none = q
+    operated_runs v behind among (frame.DeclaresRecord x t ∷ k) (m ∷ ms) is q none = operated_runs v behind among k (m ∷ ms) is q.1 none
     operated_runs v behind among (frame.Awaits w by done of part tasks ∷ k) ms is q none = q.0
     operated_runs v behind among (frame.Confines ∷ k) ms is q none = operated_runs v behind among k ms is q.1 none.1
     operated_runs v behind among (f ∷ k) ms is q none = operated_runs v behind among k ms is q.1 none
@@ -240,6 +268,8 @@ module _ (frugal : Allowance) where
     leads_calm behind among (frame.Closes ∷ k) (m ∷ ms) none q = leads_calm behind among k ms none.1 q.1
     leads_calm behind among (frame.Declares x ∷ k) [] none q = absurd q
     leads_calm behind among (frame.Declares x ∷ k) (m ∷ ms) none q = leads_calm behind among k (m ∷ ms) none.1 q.1
+    leads_calm behind among (frame.DeclaresRecord x t ∷ k) [] none q = absurd q
+    leads_calm behind among (frame.DeclaresRecord x t ∷ k) (m ∷ ms) none q = leads_calm behind among k (m ∷ ms) none.1 q.1
     leads_calm behind among (f ∷ k) ms none q = leads_calm behind among k ms none.1 q.1
 
     leaves_calm : (behind : Control) (among : List Value) (k : Control) (ms : List Master) → NoOperationRuns k → FrugalLeaves frugal behind among k ms → NoOperationRuns behind
@@ -273,6 +303,8 @@ module _ (frugal : Allowance) where
   leads_calm_behind behind among (frame.Closes ∷ k) (m ∷ ms) calm q = leads_calm_behind behind among k ms calm q.1
   leads_calm_behind behind among (frame.Declares x ∷ k) [] calm q = absurd q
   leads_calm_behind behind among (frame.Declares x ∷ k) (m ∷ ms) calm q = leads_calm_behind behind among k (m ∷ ms) calm q.1
+  leads_calm_behind behind among (frame.DeclaresRecord x t ∷ k) [] calm q = absurd q
+  leads_calm_behind behind among (frame.DeclaresRecord x t ∷ k) (m ∷ ms) calm q = leads_calm_behind behind among k (m ∷ ms) calm q.1
   leads_calm_behind behind among (f ∷ k) ms calm q = leads_calm_behind behind among k ms calm q.1
 
   pub leaves_calm_behind :
@@ -286,20 +318,74 @@ module _ (frugal : Allowance) where
   leaves_calm_behind behind among (frame.Confines ∷ k) ms calm q = leaves_calm_behind behind among k ms calm q.1
   leaves_calm_behind behind among (f ∷ k) ms calm q = absurd q
 
+  begins_calm_behind :
+      (behind : Control) (among : List Value) (k : Control) (ms : List Master) → IsCalm (behind_call k) → FrugalBegins frugal behind among k ms → NoOperationRuns behind
+  begins_calm_behind behind among [] ms calm q = absurd q
+  begins_calm_behind behind among (frame.Treats w (begins by done) tasks ∷ k) ms calm q = leads_calm_behind behind among k ms calm q.1
+  begins_calm_behind behind among (frame.Treats w (ends cause) tasks ∷ k) ms calm q = begins_calm_behind behind among k ms calm q.1
+  begins_calm_behind behind among (frame.Awaits w by done of part tasks ∷ k) ms calm q = leads_calm_behind behind among k ms calm q.1
+  begins_calm_behind behind among (frame.Copies first t ∷ k) ms calm q = begins_calm_behind behind among k ms calm q
+  begins_calm_behind behind among (frame.StoresRecord w first count ∷ k) ms calm (inl q) = begins_calm_behind behind among k ms calm q
+  begins_calm_behind behind among (frame.StoresRecord w first count ∷ k) ms calm (inr q) = leads_calm_behind behind among k ms calm q
+  begins_calm_behind behind among (f ∷ k) ms calm q = absurd q
+
   pub frugal_calm :
       (behind : Control) (among : List Value) (mode : Mode) (k : Control) (ms : List Master) → IsCalm (behind_call k) → Frugal frugal behind among mode k ms
       → NoOperationRuns behind
   frugal_calm behind among mode k ms calm (inl q) = leads_calm_behind behind among k ms calm q
   frugal_calm behind among mode k ms calm (inr (inl leaving)) = leaves_calm_behind behind among k ms calm leaving.1
-  frugal_calm behind among mode [] ms calm (inr (inr beginning)) = absurd beginning.1
-  frugal_calm behind among mode (frame.Treats w (begins by done) tasks ∷ k) ms calm (inr (inr beginning)) = leads_calm_behind behind among k ms calm beginning.1.1
-  frugal_calm behind among mode (frame.Awaits w by done of part tasks ∷ k) ms calm (inr (inr beginning)) = leads_calm_behind behind among k ms calm beginning.1.1
-  frugal_calm behind among mode (f ∷ k) ms calm (inr (inr beginning)) = absurd beginning.1
+  frugal_calm behind among mode k ms calm (inr (inr beginning)) = begins_calm_behind behind among k ms calm beginning.1
+
+  -- Behind the body of an operation itself, that one waits, and where it is of an object, no other one of that runs.
+  returns_alone :
+      (v : Value) (behind : Control) (among : List Value) (actuals : List ActualForm) (references : List Value) (k : Control) (ms : List Master)
+      → waits_first k ≡ true → FrugalLeads frugal behind among k ms ⊎ FrugalOperated frugal behind among k ms → RunsAlone v (frame.Returns actuals references ∷ k)
+  returns_alone v behind among actuals references [] ms own q = absurd (cc own)
+  returns_alone v behind among actuals references (frame.Awaits w by done of part tasks ∷ k) ms own (inl q) = absurd q.0
+  returns_alone v behind among actuals references (frame.Awaits w by done of part tasks ∷ k) ms own (inr (vs, is, beginning, q)) =
+      λ same. subst (λ (u : Value). NoOperationRunsOn u k) same beginning.2
+  returns_alone v behind among actuals references (frame.Confines ∷ k) ms own (inl q) = λ same. subst (λ (u : Value). NoOperationRunsOn u k) same q.0.1
+  returns_alone v behind among actuals references (frame.Confines ∷ k) ms own (inr (vs, is, inl (ending, q))) =
+      λ same. subst (λ (u : Value). NoOperationRunsOn u k) same ending.1
+  returns_alone v behind among actuals references (frame.Confines ∷ k) ms own (inr (vs, is, inr (ending, q))) =
+      λ same. subst (λ (u : Value). NoOperationRunsOn u k) same ending.1
+  returns_alone v behind among actuals references (f ∷ k) ms own q = absurd (cc own)
+
+  module _ (v : Value) (behind : Control) (outer : (actuals : List ActualForm) (references : List Value) → RunsAlone v (frame.Returns actuals references ∷ behind)) where
+    leads_run_alone : (among : List Value) (k : Control) (ms : List Master) → own_in k ≡ true → FrugalLeads frugal behind among k ms → RunsAlone v k
+    leads_run_alone among [] ms own q = absurd q
+    leads_run_alone among (frame.Returns actuals references ∷ k) ms own (inl q) =
+        subst (λ (j : Control). RunsAlone v (frame.Returns actuals references ∷ j)) (sym q.2) (outer actuals references)
+    leads_run_alone among (frame.Returns actuals references ∷ k) ms own (inr q) = returns_alone v behind among actuals references k ms own q
+    leads_run_alone among (frame.Elaborates ds fs hs ∷ k) [] own q = absurd q
+    leads_run_alone among (frame.Elaborates ds fs hs ∷ k) (m ∷ ms) own q = leads_run_alone among k ms own q.1
+    leads_run_alone among (frame.Closes ∷ k) [] own q = absurd q
+    leads_run_alone among (frame.Closes ∷ k) (m ∷ ms) own q = leads_run_alone among k ms own q.1
+    leads_run_alone among (frame.Declares x ∷ k) [] own q = absurd q
+    leads_run_alone among (frame.Declares x ∷ k) (m ∷ ms) own q = leads_run_alone among k (m ∷ ms) own q.1
+    leads_run_alone among (frame.DeclaresRecord x t ∷ k) [] own q = absurd q
+    leads_run_alone among (frame.DeclaresRecord x t ∷ k) (m ∷ ms) own q = leads_run_alone among k (m ∷ ms) own q.1
+    leads_run_alone among (f ∷ k) ms own q = leads_run_alone among k ms own q.1
+
+    begins_run_alone : (among : List Value) (k : Control) (ms : List Master) → own_in k ≡ true → FrugalBegins frugal behind among k ms → RunsAlone v k
+    begins_run_alone among [] ms own q = absurd q
+    begins_run_alone among (frame.Treats w (begins by done) tasks ∷ k) ms own q = leads_run_alone among k ms own q.1
+    begins_run_alone among (frame.Treats w (ends cause) tasks ∷ k) ms own q = begins_run_alone among k ms own q.1
+    begins_run_alone among (frame.Awaits w by done of part tasks ∷ k) ms own q = leads_run_alone among k ms own q.1
+    begins_run_alone among (frame.Copies first t ∷ k) ms own q = begins_run_alone among k ms own q
+    begins_run_alone among (frame.StoresRecord w first count ∷ k) ms own (inl q) = begins_run_alone among k ms own q
+    begins_run_alone among (frame.StoresRecord w first count ∷ k) ms own (inr q) = leads_run_alone among k ms own q
+    begins_run_alone among (f ∷ k) ms own q = absurd q
 
 -- Nor does anything begin where an object is finalized.
 treating_begin : (v w : Value) (cause : Cause) (tasks : List Task) (k : Control) → NothingBegins v k → NothingBegins v (treating w (ends cause) tasks k)
 treating_begin v w cause [] k none = none
 treating_begin v w cause (task ∷ tasks) k none = none
+
+-- Nor does an operation run.
+treating_alone : (v w : Value) (cause : Cause) (tasks : List Task) (k : Control) → NoOperationRunsOn v k → NoOperationRunsOn v (treating w (ends cause) tasks k)
+treating_alone v w cause [] k none = none
+treating_alone v w cause (task ∷ tasks) k none = none
 
 -- The object whose Finalize has ended is the one that is finalized.
 pub treating_before :
@@ -344,6 +430,22 @@ module _ (program : Program) (depth : ℕ) (s : State) (f : Pause program depth 
           let one : NoOperationRunsOn v (frame.Confines ∷ treating (Names f.object) (ends cause) f.tasks f.after) = subst (NoOperationRunsOn v) is none in
           let before = finalized_by (known_in program f.procedure f.suspensions) cause f.held f.watch f.object f.access f.home f.places f.operands f.also f.after f.lower f.rooms f.holds rests in
           one.0 (treating_before (Names f.object) cause f.tasks f.after before ∙ sym same)
+
+  -- The body of the operation runs alone of the object, where no operation of that runs behind.
+  waits_alone : (v : Value) → NoOperationRunsOn (Names f.object) f.after → (actuals : List ActualForm) (references : List Value)
+      → RunsAlone v (frame.Returns actuals references ∷ f.behind)
+  waits_alone v alone actuals references = by f.treatment f.awaited f.rests
+    where
+      by : (treatment : Treatment) → WaitsFor (program_form program).types f.object f.of treatment f.tasks f.after f.behind
+          → Rests (known_in program f.procedure f.suspensions) treatment f.held f.watch f.object f.access f.home f.places f.operands f.also f.after f.lower f.rooms f.holds
+          → RunsAlone v (frame.Returns actuals references ∷ f.behind)
+      by (begins birth done) (part, is) rests =
+          subst (λ (j : Control). RunsAlone v (frame.Returns actuals references ∷ j)) (sym is) (λ same. subst (λ (u : Value). NoOperationRunsOn u f.after) same alone)
+      by (ends cause) (is, inside) rests =
+          let before = finalized_by (known_in program f.procedure f.suspensions) cause f.held f.watch f.object f.access f.home f.places f.operands f.also f.after f.lower f.rooms f.holds rests in
+          subst (λ (j : Control). RunsAlone v (frame.Returns actuals references ∷ j)) (sym is)
+          (λ same. treating_alone v (Names f.object) cause f.tasks f.after
+          (subst (λ (u : Value). NoOperationRunsOn u f.after) (sym (treating_before (Names f.object) cause f.tasks f.after before) ∙ same) alone))
 
   -- Its operation runs in front of that.
   pub operated_is : operated_in f.behind ≡ Names f.object ∷ []
@@ -524,6 +626,54 @@ module _ (program : Program) (spares : SparesOwn program) (s : State) where
     others_referred others [] o t is = is
     others_referred others (g ∷ inner) o t is = referred_behind g.referenced (referenced_in (callers_of program (inner ++ others))) o t (others_referred others inner o t is)
 
+-- Nothing is adjusted that begins inside of another operation, and nothing is assigned to that ends there.
+adjusted_outside : (by : Birth) (done : List parts.Part) → IsAdjusted by → IsInside (begins by done) → ⊥
+adjusted_outside Creation done adjusted inside = adjusted
+adjusted_outside Copy done adjusted inside = inside
+adjusted_outside (Adjustment number) done adjusted inside = inside
+
+assigned_outside : (cause : Cause) → IsAssigned cause → IsInside (ends cause) → ⊥
+assigned_outside (Leaving m item) assigned inside = assigned
+assigned_outside (Freeing number) assigned inside = assigned
+assigned_outside (Assigning number) assigned (inl inside) = inside
+assigned_outside (Assigning number) assigned (inr inside) = inside
+assigned_outside (Undoing number) assigned inside = assigned
+
+-- An object that is there is found.
+adjusted_live : (heap : List Object) (o : Id) (x : Object) → object_at heap o ≡ Some x → is_there x.stage ≡ true → look heap (Names o) ≡ on_gone → ⊥
+adjusted_live heap o x found there gone = by x.stage refl (ap seen (sym found) ∙ gone)
+  where
+    by : (stage : Stage) → x.stage ≡ stage → existing x x.stage ≡ on_gone → ⊥
+    by Building is gone' = let same = rw is at gone' in cc same
+    by Existing is gone' = let same = rw is at gone' in cc same
+    by Gone is gone' = let never = rw is at there in cc never
+
+-- Where an object begins, or is adjusted, that is found, no value is finalized.
+module _ (types : List TypeDefinition) (bodies : List BodyForm) (v : Value) (by : Birth) (done : List parts.Part) (tasks : List Task) (s : State) (live : look s.heap v ≡ on_gone → ⊥) where
+  begun_live : (of part : ℕ) (operation : Option ℕ) (found : Option PartState) → begun_next named bodies v by done of part (performed tasks) operation found s ≡ halts (Erroneous FinalizesTwice) → ⊥
+  begun_live of part operation None twice = cc twice
+  begun_live of part None (Some state) twice = cc twice
+  begun_live of part (Some procedure) (Some state) twice = called (slice_get bodies procedure) twice
+    where
+      called : (b : Option BodyForm) → operation_next named procedure b (part_reference named v part state) (frame.Awaits v by done of part (performed tasks) ∷ s.control) Quiet s ≡ halts (Erroneous FinalizesTwice) → ⊥
+      called None twice' = cc twice'
+      called (Some b) twice' = cc twice'
+
+  found_live : (of part : ℕ) (found : Found (Cell Value)) → (found ≡ on_gone → ⊥) → performed_next named types bodies v (begins by done) of part (performed tasks) found s ≡ halts (Erroneous FinalizesTwice) → ⊥
+  found_live of part on_null there twice = cc twice
+  found_live of part on_gone there twice = there refl
+  found_live of part on_other there twice = cc twice
+  found_live of part (finds cell) there twice = begun_live of part (beginning by (operations_of types of)) (slice_get cell.parts part) twice
+
+  adjusts_live : (n : NextTask) → treats_next named types bodies v (begins by done) tasks n s ≡ halts (Erroneous FinalizesTwice) → ⊥
+  adjusts_live Done twice = cc twice
+  adjusts_live (Pick count) twice = picked (count == 0) twice
+    where
+      picked : (none : Bool) → (if none then halts Stuck else picks count (λ i. treated_on named v (begins by done) (picked_task (shapes_of types) (direction_of (begins by done)) tasks i) s)) ≡ halts (Erroneous FinalizesTwice) → ⊥
+      picked true twice' = cc twice'
+      picked false twice' = cc twice'
+  adjusts_live (Perform of part) twice = found_live of part (look s.heap v) live twice
+
 -- What is known while the body of an operation runs that touches storage.
 module _ (program : Program) (s : State) (grounds : Grounds program s) (gs : List Suspension) (w : Within program gs s) (stands : Stands program gs s) where
   abbrev form : ProgramForm
@@ -579,9 +729,9 @@ module _ (program : Program) (s : State) (grounds : Grounds program s) (gs : Lis
       (waits_begin v ne outermost.treatment outermost.awaited) w.frugal.frugally
 
   -- So it is of an object that is treated next, behind its treatment.
-  pub treated_begin : (v : Value) (treatment : Treatment) (tasks : List Task) (k : Control) → s.control ≡ frame.Treats v treatment tasks ∷ k → NothingBegins v k
-  treated_begin v treatment tasks k is =
-      by treatment w.frugal.upper
+  pub treated_begin : (v : Value) (treatment : Treatment) (tasks : List Task) (k : Control) → s.control ≡ frame.Treats v treatment tasks ∷ k → IsInside treatment → NothingBegins v k
+  treated_begin v treatment tasks k is inside =
+      by treatment inside w.frugal.upper
       (subst (λ (all : Control). Frugal thrifty outermost.behind (operated_among w.inner) s.mode all w.frugal.upper) is w.frugal.frugally)
     where
       behind : (ms : List Master) → NoOperationRunsOn v k → FrugalLeads thrifty outermost.behind (operated_among w.inner) k ms → NothingBegins v k
@@ -598,11 +748,12 @@ module _ (program : Program) (s : State) (grounds : Grounds program s) (gs : Lis
           (λ among. leaving_runs thrifty v outermost.behind (operated_among w.inner) k ms among q alone)
           (waits_begin v other outermost.treatment outermost.awaited) q
 
-      by : (way : Treatment) (ms : List Master) → Frugal thrifty outermost.behind (operated_among w.inner) s.mode (frame.Treats v way tasks ∷ k) ms → NothingBegins v k
-      by way ms (inl q) = behind ms q.0.3 q.1
-      by way ms (inr (inl leaving)) = behind_leaving ms leaving.1.0.3 leaving.1.1
-      by (begins birth done) ms (inr (inr beginning)) = behind ms beginning.1.0.2 beginning.1.1
-      by (ends cause) ms (inr (inr beginning)) = absurd beginning.1
+      by : (way : Treatment) → IsInside way → (ms : List Master) → Frugal thrifty outermost.behind (operated_among w.inner) s.mode (frame.Treats v way tasks ∷ k) ms → NothingBegins v k
+      by way here ms (inl q) = behind ms q.0.3 q.1
+      by way here ms (inr (inl leaving)) = behind_leaving ms leaving.1.0.3 leaving.1.1
+      by (begins birth done) here ms (inr (inr (may, (inl fresh, q)))) = behind ms fresh.2 q
+      by (begins birth done) here ms (inr (inr (may, (inr adjusting, q)))) = absurd (adjusted_outside birth done adjusting.0 here)
+      by (ends cause) here ms (inr (inr (may, (ending, q)))) = absurd (assigned_outside cause ending.0 here)
 
   -- What is outside of the running body.
   abbrev outer : Outsiders
@@ -693,35 +844,70 @@ module _ (program : Program) (s : State) (grounds : Grounds program s) (gs : Lis
       subst (λ (m : Mode). s ≡ record s { mode = m; control = k }) runs
       (subst (λ (j : Control). s ≡ record s { control = j }) is refl)
 
-  -- An object that is treated next has values of all parts that are to be finalized: no other operation of it runs.
-  treated : (v : Value) (treatment : Treatment) (tasks : List Task) (k : Control) → s.mode ≡ Running → s.control ≡ frame.Treats v treatment tasks ∷ k → NoOperationRunsOn v k → (forms : List TypeForm)
-      → FinalizesBy (may_free program s) forms outer types bodies (frame.Treats v treatment tasks) (record s { mode = Running; control = k })
-  unfolding next
-  treated v treatment tasks k runs is alone forms = λ twice.
-      grounds.exist v treatment tasks k is alone
-      (subst (λ (t : State). Halts program t (Erroneous FinalizesTwice)) (sym (state_is Running (frame.Treats v treatment tasks ∷ k) runs is)) twice)
+  module _ (ready : Ready (known_in program (running_procedure s) gs) s) where
+    -- An object that is treated next has values of all parts that are to be finalized: no other operation of it runs.
+    treated : (v : Value) (treatment : Treatment) (tasks : List Task) (k : Control) → s.mode ≡ Running → s.control ≡ frame.Treats v treatment tasks ∷ k → NoOperationRunsOn v k → (forms : List TypeForm)
+        → FinalizesBy (may_free program s) forms outer types bodies (frame.Treats v treatment tasks) (record s { mode = Running; control = k })
+    unfolding next
+    treated v treatment tasks k runs is alone forms = λ twice.
+        grounds.exist v treatment tasks k is alone
+        (subst (λ (t : State). Halts program t (Erroneous FinalizesTwice)) (sym (state_is Running (frame.Treats v treatment tasks ∷ k) runs is)) twice)
 
-  by_frame :
-      (g : Frame Value) (k : Control) (ms : List Master) → s.mode ≡ Running → s.control ≡ g ∷ k → Frugal thrifty outermost.behind (operated_among w.inner) Running (g ∷ k) ms → (forms : List TypeForm)
-      → FinalizesBy (may_free program s) forms outer types bodies g (record s { mode = Running; control = k })
-  by_frame (frame.Does fs) k ms runs is q forms = stand (ap begins_first is) forms
-  by_frame (frame.FreesIn access c) k ms runs is q forms = stand (ap begins_first is) forms
-  by_frame (frame.Treats v treatment tasks) k ms runs is (inl q) forms = treated v treatment tasks k runs is q.0.3 forms
-  by_frame (frame.Treats v treatment tasks) k ms runs is (inr (inl leaving)) forms = treated v treatment tasks k runs is leaving.1.0.3 forms
-  by_frame (frame.Treats v (begins birth done) tasks) k ms runs is (inr (inr beginning)) forms = treated v (begins birth done) tasks k runs is beginning.1.0.2 forms
-  by_frame (frame.Treats v (ends cause) tasks) k ms runs is (inr (inr beginning)) forms = absurd beginning.1
-  by_frame g k ms runs is q forms = tt
+    -- Where the body of an operation itself assigns to a record, each part that is finalized has a value,
+    assigned : (v : Value) (number : ℕ) (tasks : List Task) (first t : ℕ) (k : Control) (ms : List Master) → s.mode ≡ Running → s.control ≡ frame.Treats v (ends (Assigning number)) tasks ∷ frame.Copies first t ∷ k
+        → own_in k ≡ true → FrugalBegins thrifty outermost.behind (operated_among w.inner) k ms → (forms : List TypeForm)
+        → FinalizesBy (may_free program s) forms outer types bodies (frame.Treats v (ends (Assigning number)) tasks) (record s { mode = Running; control = frame.Copies first t ∷ k })
+    unfolding next
+    assigned v number tasks first t k ms runs is own q forms = λ twice.
+        grounds.assigned v number tasks first t k is
+        (begins_run_alone thrifty v outermost.behind (waits_alone program (length w.inner) s outermost v w.alone) (operated_among w.inner) k ms own q)
+        (subst (λ (t' : State). Halts program t' (Erroneous FinalizesTwice)) (sym (state_is Running (frame.Treats v (ends (Assigning number)) tasks ∷ frame.Copies first t ∷ k) runs is)) twice)
 
-  by_mode : (mode : Mode) (k : Control) (ms : List Master) → s.mode ≡ mode → s.control ≡ k → Frugal thrifty outermost.behind (operated_among w.inner) mode k ms → (forms : List TypeForm) → FinalizesIn (may_free program s) forms outer types bodies mode k s
-  by_mode Running [] ms runs is q forms = tt
-  by_mode Running (g ∷ k) ms runs is q forms = by_frame g k ms runs is q forms
-  by_mode (Raising e) k ms runs is q forms = tt
-  by_mode Exiting k ms runs is q forms = tt
-  by_mode Returning k ms runs is q forms = tt
+    -- and the object of what is adjusted is there.
+    adjusted : (v : Value) (number : ℕ) (done : List parts.Part) (tasks : List Task) (k : Control) → s.mode ≡ Running → s.control ≡ frame.Treats v (begins (Adjustment number) done) tasks ∷ k → (forms : List TypeForm)
+        → FinalizesBy (may_free program s) forms outer types bodies (frame.Treats v (begins (Adjustment number) done) tasks) (record s { mode = Running; control = k })
+    adjusted v number done tasks k runs is forms = λ twice. adjusts_live types bodies v (Adjustment number) done tasks (record s { mode = Running; control = k }) live (task_next tasks) twice
+      where
+        known : Known
+        known = known_in program (running_procedure s) gs
 
-  -- Each object that may be freed, and is not owned outside, stands, and no treatment finalizes a value that does not exist.
-  pub touching_stands : (forms : List TypeForm) → FinalizesIn (may_free program s) forms outer types bodies s.mode s.control s
-  touching_stands forms = by_mode s.mode s.control w.frugal.upper refl refl w.frugal.frugally forms
+        by_ready : ReadyIn known Running (frame.Treats v (begins (Adjustment number) done) tasks ∷ k) s.heap (places s) (operands s) s.masters
+        by_ready = subst (λ (mode : Mode). ReadyIn known mode (frame.Treats v (begins (Adjustment number) done) tasks ∷ k) s.heap (places s) (operands s) s.masters) runs
+            (subst (λ (j : Control). ReadyIn known s.mode j s.heap (places s) (operands s) s.masters) is ready.1)
+
+        live : look s.heap v ≡ on_gone → ⊥
+        live gone = adjusted_live s.heap by_ready.0.o by_ready.0.x by_ready.0.found by_ready.0.there (ap (look s.heap) (sym by_ready.0.is) ∙ gone)
+
+    by_frame :
+        (g : Frame Value) (k : Control) (ms : List Master) → s.mode ≡ Running → s.control ≡ g ∷ k → Frugal thrifty outermost.behind (operated_among w.inner) Running (g ∷ k) ms → (forms : List TypeForm)
+        → FinalizesBy (may_free program s) forms outer types bodies g (record s { mode = Running; control = k })
+    by_frame (frame.Does fs) k ms runs is q forms = stand (ap begins_first is) forms
+    by_frame (frame.FreesIn access c) k ms runs is q forms = stand (ap begins_first is) forms
+    by_frame (frame.Treats v treatment tasks) k ms runs is (inl q) forms = treated v treatment tasks k runs is q.0.3 forms
+    by_frame (frame.Treats v treatment tasks) k ms runs is (inr (inl leaving)) forms = treated v treatment tasks k runs is leaving.1.0.3 forms
+    by_frame (frame.Treats v (begins birth done) tasks) k ms runs is (inr (inr (may, (inl fresh, q)))) forms = treated v (begins birth done) tasks k runs is fresh.2 forms
+    by_frame (frame.Treats v (begins Creation done) tasks) k ms runs is (inr (inr (may, (inr adjusting, q)))) forms = absurd adjusting.0
+    by_frame (frame.Treats v (begins Copy done) tasks) k ms runs is (inr (inr (may, (inr adjusting, q)))) forms = absurd adjusting.0
+    by_frame (frame.Treats v (begins (Adjustment number) done) tasks) k ms runs is (inr (inr (may, (inr adjusting, q)))) forms = adjusted v number done tasks k runs is forms
+    by_frame (frame.Treats v (ends (Leaving m item)) tasks) k ms runs is (inr (inr (may, (ending, q)))) forms = absurd ending.0
+    by_frame (frame.Treats v (ends (Freeing number)) tasks) k ms runs is (inr (inr (may, (ending, q)))) forms = absurd ending.0
+    by_frame (frame.Treats v (ends (Undoing number)) tasks) k ms runs is (inr (inr (may, (ending, q)))) forms = absurd ending.0
+    by_frame (frame.Treats v (ends (Assigning number)) tasks) [] ms runs is (inr (inr (may, (ending, q)))) forms = absurd q
+    by_frame (frame.Treats v (ends (Assigning number)) tasks) (frame.Copies first t ∷ k) ms runs is (inr (inr (may, (ending, q)))) forms =
+        assigned v number tasks first t k ms runs is ending.2.1 q forms
+    by_frame (frame.Treats v (ends (Assigning number)) tasks) (f ∷ k) ms runs is (inr (inr (may, (ending, q)))) forms = let copies = ending.1 in absurd (cc copies)
+    by_frame g k ms runs is q forms = tt
+
+    by_mode : (mode : Mode) (k : Control) (ms : List Master) → s.mode ≡ mode → s.control ≡ k → Frugal thrifty outermost.behind (operated_among w.inner) mode k ms → (forms : List TypeForm) → FinalizesIn (may_free program s) forms outer types bodies mode k s
+    by_mode Running [] ms runs is q forms = tt
+    by_mode Running (g ∷ k) ms runs is q forms = by_frame g k ms runs is q forms
+    by_mode (Raising e) k ms runs is q forms = tt
+    by_mode Exiting k ms runs is q forms = tt
+    by_mode Returning k ms runs is q forms = tt
+
+    -- Each object that may be freed, and is not owned outside, stands, and no treatment finalizes a value that does not exist.
+    pub touching_stands : (forms : List TypeForm) → FinalizesIn (may_free program s) forms outer types bodies s.mode s.control s
+    touching_stands forms = by_mode s.mode s.control w.frugal.upper refl refl w.frugal.frugally forms
 
 -- An object that is finalized has left its collection by the end of the body.
 pub touching_unlisted :

@@ -8,7 +8,7 @@ use Rattle.std.specs.Option.{option_map}
 use Rattle.std.proofs.lemmas.Option.{slice_get-map}
 use Rattle.ada_deeds.specs.Implicit.{implicit_of}
 use Rattle.ada_effects.specs.Effects.{assignment_frees}
-use Rattle.ada_finalized.specs.Law.{NoOperationRuns, NothingBegins}
+use Rattle.ada_finalized.specs.Law.{NoOperationRuns, NoOperationRunsOn, NothingBegins}
 use Rattle.ada_finalized.proofs.Standing.{AdjustsAlone, nothing_begins}
 use Rattle.ada_parts.specs.Task.{Task}
 use Rattle.ada_program.specs.declared.program.Program.{Program}
@@ -26,6 +26,7 @@ use Rattle.ada_meaning.specs.declared.state.Id.{Id}
 use Rattle.ada_meaning.specs.declared.state.Mode.TheVariants.{Running}
 use Rattle.ada_meaning.specs.declared.state.Value.{Value}
 use Rattle.ada_meaning.specs.declared.state.Value.TheVariants.{Names, Part}
+use Rattle.ada_meaning.specs.Frame as frame
 use Rattle.ada_meaning.specs.Frame.{Treatment, Treats, begins, ends, Copies, Ends}
 use Rattle.ada_meaning.specs.Heap.{Cell}
 use Rattle.ada_meaning.specs.Law.{items_of}
@@ -119,6 +120,13 @@ lone_inside v (ends (Undoing number)) k ended none = λ w behind is. subst (Noth
 treating_others : (u v : Value) (by : Birth) (tasks : List Task) (k : Control) → u ≢ v → NothingBegins u k → NothingBegins u (treating v (begins by []) tasks k)
 treating_others u v by [] k ne none = none
 treating_others u v by (task ∷ tasks) k ne none = ((λ same. ne (sym same)), none)
+
+-- Where no operation runs, none of an object does.
+none_runs_on : (v : Value) (k : Control) → NoOperationRuns k → NoOperationRunsOn v k
+none_runs_on v [] none = tt
+none_runs_on v (frame.Awaits w by done of part tasks ∷ k) none = let waits = none.0 in absurd (cc waits)
+none_runs_on v (frame.Confines ∷ k) none = let waits = none.0 in absurd (cc waits)
+none_runs_on v (f ∷ k) none = none_runs_on v k none.1
 
 module _ (program : Program) (a : Activation Value) (rest : List (Activation Value)) (s : State) (k : Control) (v : Value) (treatment : Treatment) (tasks : List Task) (gs : List Suspension) where
   abbrev p : ProgramForm
@@ -327,7 +335,7 @@ module _ (program : Program) (a : Activation Value) (rest : List (Activation Val
           let waits : WaitsFor p.types c.o c.of c.treatment c.tasks k c.behind = subst (λ (types : List TypeForm). WaitsFor types c.o c.of c.treatment c.tasks k c.behind) (same_types a.procedure p) c.waits in
           let before = record s { activations = a ∷ rest; heap = c.heap; mode = Running; control = k } in
           let runs : Frugally (allowance_of p) s.masters c.behind [] after =
-          rw c.is (frugal_starts (allowance_of p) c.number c.b (body_thrifty p c.b frugal) (Part c.o c.place) c.behind before) in
+          rw c.is (frugal_starts (allowance_of p) c.number c.b (body_thrifty p true c.b frugal) (Part c.o c.place) c.behind (is_awaited p.types c.o c.of c.treatment c.tasks k c.behind waits) before) in
           record {
             suspensions = origin program 0 after begun.pause ∷ gs;
             ready = begun.ready;
@@ -339,6 +347,7 @@ module _ (program : Program) (a : Activation Value) (rest : List (Activation Val
               within = begun.runs;
               frugal = rw (begun.is_lower, begun.is_behind) runs;
               untreated = λ u other. subst (NothingBegins u) (sym started.2) (untreated_outermost u (λ same. other (same ∙ ap Names (sym started.1))));
+              alone = subst (NoOperationRunsOn (Names begun.pause.object)) (sym started.2) (none_runs_on (Names begun.pause.object) k (subst NoOperationRuns is still).1);
               calm = rw begun.is_behind (calm_behind p.types c.o c.of c.treatment c.tasks k c.behind waits calm);
               settled = rw begun.suspensions settled;
               may = may;

@@ -34,7 +34,8 @@ use Rattle.ada_sound.specs.Agreement.{running_procedure}
 use Rattle.ada_sound.proofs.Alters.{Alters}
 use Rattle.ada_sound.proofs.Callers.{Suspension, known_in, Stands, AreOf}
 use Rattle.ada_sound.proofs.FrugalControl.{BeginsThere, EndsThere, LeavesThere, Frugal, Frugally, FrugalLeads, FrugalLeaves, FrugalOperated, IsInside, begun_leads, ends_leads, leaves_operated, frugal_starts_inside, operated_in, operated_on}
-use Rattle.ada_sound.proofs.FrugalSteps.{GoesOrBegins, treats_frugally}
+use Rattle.ada_sound.proofs.FrugalSteps.{GoesOrBegins, IsTreated, treats_frugally}
+use Rattle.ada_sound.proofs.Inert.{inert_calls, stays_inert}
 use Rattle.ada_sound.proofs.Invariant.{Control, Known, Stepped}
 use Rattle.ada_sound.proofs.Operating.{PlainBody, WaitsFor, behind_operation}
 use Rattle.ada_sound.proofs.OperationBegins.{begins_operation}
@@ -113,26 +114,16 @@ module _ (program : Program) (a : Activation Value) (rest : List (Activation Val
       standing = record { suspended = f.stands.standing.suspended; waiting = f.stands.standing.waiting; low = f.stands.standing.low };
     }
 
-    -- The object is freed or undone, or its master is left, or it begins, and no operation of it runs behind; and then this is left to do.
-    abbrev IsTreated : Treatment → Type 0
-    IsTreated (begins by done) = BeginsThere frugal v by k × FrugalLeads frugal operation.behind among k upper
-    IsTreated (ends cause) =
-        (EndsThere frugal v (ends cause) k × FrugalLeads frugal operation.behind among k upper)
-        ⊎ (LeavesThere frugal v (ends cause) k × FrugalLeaves frugal operation.behind among k upper)
+    -- The object is freed or undone, or its master is left, or it begins, where an operation of it is called.
+    abbrev Treated : Treatment → Type 0
+    Treated = IsTreated frugal operation.behind among v k upper
 
-    treated_here : IsTreated treatment
-    treated_here = by treatment f.within.frugal.frugally
-      where
-        by : (way : Treatment) → Frugal frugal operation.behind among Running (Treats v way tasks ∷ k) upper → IsTreated way
-        by (begins how done) (inl leads) = absurd leads.0.0
-        by (begins how done) (inr (inl leaving)) = absurd leaving.1.0.0
-        by (begins how done) (inr (inr beginning)) = beginning.1
-        by (ends cause) (inl leads) = inl leads
-        by (ends cause) (inr (inl leaving)) = inr leaving.1
-        by (ends cause) (inr (inr beginning)) = absurd beginning.1
+    -- It goes on, or an operation begins.
+    abbrev GoesThere : State → Type 0
+    GoesThere = GoesOrBegins frugal operation.lower operation.behind among program.types.items (body_forms program) whole (Treated treatment)
 
     -- So it is one that may be treated inside another operation.
-    inside_so : (way : Treatment) → IsTreated way → IsInside way
+    inside_so : (way : Treatment) → Treated way → IsInside way
     inside_so (begins Creation done) beginning = tt
     inside_so (begins Copy done) beginning = let created = beginning.0.0 in absurd (cc created)
     inside_so (begins (Adjustment number) done) beginning = let created = beginning.0.0 in absurd (cc created)
@@ -141,20 +132,25 @@ module _ (program : Program) (a : Activation Value) (rest : List (Activation Val
 
     -- It goes on in the body that frees, allocates or declares it, or that leaves its master, or out of whose beginning an exception has come.
     goes_here : (e : Event) (after : State) → Stepped treater s.heap e after × StaysHere treater a rest s program.types.items (body_forms program) k Operated after
-        → GoesOrBegins frugal operation.lower operation.behind among program.types.items (body_forms program) whole after → Still program whole f after → InTouching program s.heap e after
+        → GoesThere after → Still program whole f after → InTouching program s.heap e after
     goes_here e after (st, (acts, behind)) goes still =
         stays_on program whole f e after (record { procedure = ap procedure_of acts; suspended = ap older acts }) st (by goes) still
       where
-        by : GoesOrBegins frugal operation.lower operation.behind among program.types.items (body_forms program) whole after → Frugally frugal operation.lower operation.behind among after
-        by (inl stays) = stays
-        by (inr more) =
+        by : GoesThere after → Frugally frugal operation.lower operation.behind among after
+        by (inl (stays, same)) = stays
+        by (inr (more, called)) =
             let same : length after.activations ≡ length (a ∷ rest) = ap length acts in
             absurd (omega (arith, same, more))
 
-    module _ (e : Event) (after : State) (c : BeginsHere e after) (still : Still program whole f after) where
+    -- An operation of it is called, where one begins.
+    treated_here : (after : State) → length after.activations ≡ suc (length (a ∷ rest)) → GoesThere after → Treated treatment
+    treated_here after more (inl (stays, same)) = absurd (omega (arith, same, more))
+    treated_here after more (inr (longer, called)) = called
+
+    module _ (e : Event) (after : State) (c : BeginsHere e after) (called_here : Treated treatment) (still : Still program whole f after) where
       -- So it is where the operation begins.
-      is_treated : IsTreated c.treatment
-      is_treated = subst IsTreated (sym c.operated.0) treated_here
+      is_treated : Treated c.treatment
+      is_treated = subst Treated (sym c.operated.0) called_here
 
       inside_it : IsInside c.treatment
       inside_it = inside_so c.treatment is_treated
@@ -169,7 +165,7 @@ module _ (program : Program) (a : Activation Value) (rest : List (Activation Val
       leads_behind : FrugalOperated frugal operation.behind (Names c.o ∷ among) c.behind upper
       leads_behind = by c.treatment is_treated waits_here
         where
-          by : (way : Treatment) → IsTreated way → WaitsFor p.types c.o c.of way c.tasks k c.behind
+          by : (way : Treatment) → Treated way → WaitsFor p.types c.o c.of way c.tasks k c.behind
               → FrugalOperated frugal operation.behind (Names c.o ∷ among) c.behind upper
           by (begins how done) beginning (part, is) =
               subst (λ (j : Control). FrugalOperated frugal operation.behind (Names c.o ∷ among) j upper) (sym is)
@@ -188,11 +184,11 @@ module _ (program : Program) (a : Activation Value) (rest : List (Activation Val
       operated_here : operated_in c.behind ≡ Names c.o ∷ []
       operated_here = by c.treatment is_treated waits_here
         where
-          finalized : (cause : Cause) → IsTreated (ends cause) → finalized_before k ≡ v
+          finalized : (cause : Cause) → Treated (ends cause) → finalized_before k ≡ v
           finalized cause (inl ending) = ending.0.2
           finalized cause (inr leaving) = leaving.0.2
 
-          by : (way : Treatment) → IsTreated way → WaitsFor p.types c.o c.of way c.tasks k c.behind → operated_in c.behind ≡ Names c.o ∷ []
+          by : (way : Treatment) → Treated way → WaitsFor p.types c.o c.of way c.tasks k c.behind → operated_in c.behind ≡ Names c.o ∷ []
           by (begins how done) beginning (part, is) = ap operated_in is
           by (ends cause) ending (is, inside) =
               let before = finalized_behind (Names c.o) (ends cause) c.tasks k (finalized cause ending ∙ c.operated.3) in
@@ -374,7 +370,7 @@ module _ (program : Program) (a : Activation Value) (rest : List (Activation Val
           -- Its body is frugal as the others are.
           runs_begun : Frugally frugal operation.lower operation.behind (operated_among (waits_for ∷ f.within.inner)) after
           runs_begun =
-              let body : is_thrifty_body frugal c.b ≡ true = body_thrifty p c.b frugal_body in
+              let body : is_thrifty_body frugal true c.b ≡ true = body_thrifty p true c.b frugal_body in
               subst (λ (t : State). Frugally frugal operation.lower operation.behind (operated_among (waits_for ∷ f.within.inner)) t) (sym c.is)
               (frugal_starts_inside frugal operation.behind (operated_in begun.pause.behind ++ among) upper operation.lower c.number c.b body (Part c.o c.place) c.behind (record (running k a rest s) { heap = c.heap }) f.within.frugal.masters
               (subst (λ (j : Control). FrugalOperated frugal operation.behind (operated_in j ++ among) c.behind upper) (sym begun.is_behind) leads_operated))
@@ -394,14 +390,14 @@ module _ (program : Program) (a : Activation Value) (rest : List (Activation Val
         -- Nothing of the object begins behind it, where it ends.
         lone_here : (way : Treatment) → IsInside way → IsLoneBehind v way k
         lone_here (begins how done) inside = tt
-        lone_here (ends cause) ended = lone_inside v (ends cause) k ended (treated_begin program whole grounds f.suspensions f.within f.stands v treatment tasks k refl)
+        lone_here (ends cause) ended = lone_inside v (ends cause) k ended (treated_begin program whole grounds f.suspensions f.within f.stands v treatment tasks k refl (inside_so treatment called_here))
 
         -- So one begins inside that touches storage.
         begins_frugal : MayTouch c.treatment → may_be_frugal p ≡ true → is_frugal_body (thrift_of p) c.b ≡ true → TouchesStorage p c.treatment c.b
             → Went program s.heap e after
         begins_frugal touches may frugal_body stores =
             let uses = treats_in_use program whole grounds whole.control refl tt in
-            let lone = lone_here treatment (inside_so treatment treated_here) in
+            let lone = lone_here treatment (inside_so treatment called_here) in
             inl (begins_inside (touching_starts program a rest s k v treatment tasks f.suspensions whole refl grounds lone stands_here uses (treats_made program whole grounds v treatment tasks k refl) e after c touches may frugal_body stores typed_after) frugal_body)
 
         begins_as : IsUsedAs p c.of c.number c.treatment c.b → Went program s.heap e after
@@ -416,12 +412,12 @@ module _ (program : Program) (a : Activation Value) (rest : List (Activation Val
 
     -- Whatever comes next.
     treated_went : (n : Next) → next program.types.items (body_forms program) whole ≡ n → TreatedIn treater a rest s program.types.items (body_forms program) k Operated v n
-        → Each (GoesOrBegins frugal operation.lower operation.behind among program.types.items (body_forms program) whole) n → Each (Still program whole f) n → GoesTouching program whole n
+        → Each GoesThere n → Each (Still program whole f) n → GoesTouching program whole n
     treated_went (halts halt) is t goes still = t
     treated_went (moves e after) is (inl st) goes still = inl (goes_here e after st goes still)
-    treated_went (moves e after) is (inr (inl c)) goes still = begins_there e after c still is
+    treated_went (moves e after) is (inr (inl c)) goes still = begins_there e after c (treated_here after (ap (λ (t : State). length t.activations) c.is) goes) still is
     treated_went (moves e after) is (inr (inr c)) goes still =
-        absurd (copies_outside c.by c.done c.copies (subst IsInside (sym c.operated.0) (inside_so treatment treated_here)))
+        absurd (copies_outside c.by c.done c.copies (subst IsInside (sym c.operated.0) (inside_so treatment (treated_here after (ap (λ (t : State). length t.activations) c.is) goes))))
     treated_went (tells request e after) is t goes still = absurd t
     treated_went (asks request answered) is t goes still = absurd t
     treated_went (picks n taken) is t goes still = λ i lt. inl (goes_here Quiet (taken i) (t i lt) (goes i lt) (still i lt))
@@ -429,6 +425,7 @@ module _ (program : Program) (a : Activation Value) (rest : List (Activation Val
     pub treats_step : GoesTouching program whole (frame_next named program.types.items (body_forms program) (Treats v treatment tasks) (with_parts Running k (a ∷ rest) s))
     unfolding next
     treats_step =
-        treated_went _ refl (treated_next program a rest k s v treatment tasks grounds f.suspensions (touching_stands program whole grounds f.suspensions f.within f.stands treater.program.types) f.ready.1)
-        (treats_frugally frugal operation.lower operation.behind among program.types.items (body_forms program) whole f.within.frugal refl v treatment tasks k refl)
+        treated_went _ refl (treated_next program a rest k s v treatment tasks grounds f.suspensions (touching_stands program whole grounds f.suspensions f.within f.stands f.ready treater.program.types) f.ready.1)
+        (treats_frugally frugal operation.lower operation.behind among program.types.items (body_forms program) whole
+        (inert_calls program grounds.well) (stays_inert program) f.within.frugal refl v treatment tasks k refl)
         (still_on program whole f grounds (λ j awaited last. cc last))

@@ -4,7 +4,7 @@ use Rattle.std.proofs.Common.{◌≡◌, ℕ, Bool, true, false, List, [], ◌�
 use Rattle.std.specs.Prelude.{not, ◌&&◌}
 use Rattle.std.proofs.lemmas.Bool.{or_cases}
 use Rattle.ada_effects.specs.Effects.{Implicit}
-use Rattle.ada_idle.proofs.Idle.{ControlIsIdle}
+use Rattle.ada_idle.proofs.Idle.{ControlIsIdle, IsIdle}
 use Rattle.ada_meaning.specs.declared.event.Halt.TheVariants.{Erroneous}
 use Rattle.ada_meaning.specs.declared.event.Why.TheVariants.{FinalizesTwice}
 use Rattle.ada_meaning.specs.declared.state.Id.{Id}
@@ -23,7 +23,7 @@ use Rattle.ada_program.specs.Controlled.{shapes_of}
 use Rattle.ada_program.specs.declared.program.Program.{Program}
 use Rattle.ada_program.specs.ProgramForm.{ProgramForm, TypeForm, body_forms, program_form, seen_in}
 use Rattle.ada_quiet.specs.Idle.{makes_parts}
-use Rattle.ada_quiet.specs.InUse.{operations_are_idle, operations_may_be_called, operations_stand_in_order}
+use Rattle.ada_quiet.specs.InUse.{operations_are_idle, operations_are_in_use, operations_may_be_called, operations_stand_in_order}
 use Rattle.ada_scopes.proofs.Treatments.{TreatsFirst}
 use Rattle.ada_sound.proofs.AdjustsKept.{adjusts_picked}
 use Rattle.ada_sound.proofs.Callers.{Suspension, known_in}
@@ -59,9 +59,11 @@ told_covered program (Line line) told n = tt
 told_covered program Quiet told n = tt
 
 -- Where operations are idle, nothing is treated: so where something is, they are in use as operations that may be called.
-pub treats_in_use : (program : Program) (s : State) → Grounds program s → (k : Control) → s.control ≡ k → TreatsFirst k → operations_may_be_called (program_form program) ≡ true
-treats_in_use program s grounds [] is first = absurd first
-treats_in_use program s grounds (Treats v treatment tasks ∷ k) is first = by (or_cases (operations_are_idle p) (operations_may_be_called p) grounds.in_use)
+pub treated_in_use :
+    (program : Program) (s : State) → operations_are_in_use (program_form program) ≡ true → (makes_parts (program_form program) ≡ false → IsIdle (program_form program).types s)
+    → (k : Control) → s.control ≡ k → TreatsFirst k → operations_may_be_called (program_form program) ≡ true
+treated_in_use program s in_use idles [] is first = absurd first
+treated_in_use program s in_use idles (Treats v treatment tasks ∷ k) is first = by (or_cases (operations_are_idle p) (operations_may_be_called p) in_use)
   where
     p : ProgramForm
     p = program_form program
@@ -73,9 +75,12 @@ treats_in_use program s grounds (Treats v treatment tasks ∷ k) is first = by (
     by : (operations_are_idle p ≡ true) ⊎ (operations_may_be_called p ≡ true) → operations_may_be_called p ≡ true
     by (inr called) = called
     by (inl idle) =
-        let is_idle = grounds.idle (none (makes_parts p) (operations_stand_in_order p) idle) in
+        let is_idle = idles (none (makes_parts p) (operations_stand_in_order p) idle) in
         absurd ((subst (λ (all : Control). ControlIsIdle p.types all) is is_idle.control).0)
-treats_in_use program s grounds (f ∷ k) is first = absurd first
+treated_in_use program s in_use idles (f ∷ k) is first = absurd first
+
+pub treats_in_use : (program : Program) (s : State) → Grounds program s → (k : Control) → s.control ≡ k → TreatsFirst k → operations_may_be_called (program_form program) ≡ true
+treats_in_use program s grounds k is first = treated_in_use program s grounds.in_use grounds.idle k is first
 
 module _ (program : Program) (a : Activation Value) (rest : List (Activation Value)) (k : Control) (s : State) (v : Value) (treatment : Treatment) (tasks : List Task) (grounds : Grounds program (record s { mode = Running; control = Treats v treatment tasks ∷ k; activations = a ∷ rest })) (gs : List Suspension) where
   abbrev whole : State

@@ -2,6 +2,7 @@
 use Rattle.ada_finalized.specs.Example.{outer_operations, outer_finalizes}
 use Rattle.ada_finalized.proofs.Example as example
 use Rattle.ada_finalized.proofs.OperationExamples as examples
+use Rattle.ada_finalized.proofs.NestedExample as nested
 use Rattle.ada_finalized.proofs.laws.premises_are_met.Goals as goal
 
 pub returns-clause-finalized : goal.returns-clause-finalized
@@ -52,4 +53,38 @@ returns-clause-finalize_frees c = (
   examples.freeing_form outer_finalizes,
   examples.finalize_stands,
   examples.finalize_treats,
+)
+
+pub returns-clause-initialize_assigns : goal.returns-clause-initialize_assigns
+returns-clause-initialize_assigns c = (
+  examples.assigning_inside outer_operations,
+  examples.inside_shapes outer_operations,
+  examples.inside_operations outer_operations,
+  examples.inside_bodies outer_operations,
+  examples.inside_form outer_operations,
+  examples.initialize_inner,
+  examples.initialize_ends,
+)
+
+pub returns-clause-finalize_assigns : goal.returns-clause-finalize_assigns
+returns-clause-finalize_assigns c = (
+  examples.assigning_inside outer_finalizes,
+  examples.inside_shapes outer_finalizes,
+  examples.inside_operations outer_finalizes,
+  examples.inside_bodies outer_finalizes,
+  examples.inside_form outer_finalizes,
+  examples.finalize_inner,
+  examples.finalize_ends,
+)
+
+pub returns-clause-assignments_nest : goal.returns-clause-assignments_nest
+returns-clause-assignments_nest c = (
+  nested.program,
+  nested.shapes,
+  nested.inner_operations,
+  nested.outer_operations,
+  nested.bodies,
+  nested.form,
+  nested.treats_innermost,
+  nested.finishes,
 )

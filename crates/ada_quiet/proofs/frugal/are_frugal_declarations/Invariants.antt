@@ -7,7 +7,7 @@ use Rattle.ada_quiet.proofs.frugal.are_frugal_declarations.Given as goal
 -- what is left tells of all
 abbrev pub invariant-declarations : goal.invariant-declarations
 invariant-declarations l =
-    are_frugal_declarations (thrift_in l.thrift.types.now (marked_in l.thrift.outermost.now) l.thrift.procedures.now)
+    are_frugal_declarations (thrift_in l.thrift.types.now (marked_in l.thrift.outermost.now) l.thrift.inert.now l.thrift.procedures.now l.thrift.operation)
     (map declaration_form (drop l.declaration-index l.declarations))
-    ≡ are_frugal_declarations (thrift_in l.thrift.types.now (marked_in l.thrift.outermost.now) l.thrift.procedures.now)
+    ≡ are_frugal_declarations (thrift_in l.thrift.types.now (marked_in l.thrift.outermost.now) l.thrift.inert.now l.thrift.procedures.now l.thrift.operation)
     (map declaration_form l.declarations)

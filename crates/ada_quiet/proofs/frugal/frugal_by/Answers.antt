@@ -1,17 +1,18 @@
 -- The next procedure is told as its body is, by what is known of those before it.
-use Rattle.std.proofs.Common.{◌≡◌, ℕ, ◌+◌, ◌<◌, Bool, List, [], ◌∷◌, ◌++◌, length, get_or, map, drop, sym, ap, ◌∙◌, subst}
+use Rattle.std.proofs.Common.{◌≡◌, ℕ, ◌+◌, ◌<◌, Bool, false, List, [], ◌∷◌, ◌++◌, length, get_or, map, drop, sym, ap, ◌∙◌, subst}
 use Rattle.std.proofs.lemmas.List.{at_drop_more}
 use Rattle.ada_program.specs.declared.program.Procedure.{Procedure}
 use Rattle.ada_program.specs.declared.program.TypeDefinition.{TypeDefinition}
 use Rattle.ada_program.specs.Kept.{types_in}
 use Rattle.ada_program.specs.ProgramForm.{body_form}
+use Rattle.ada_quiet.specs.Calm.{inert_types}
 use Rattle.ada_quiet.specs.Frugal.{is_frugal_body, frugal_from}
 use Rattle.ada_quiet.specs.Known.{marked_in, thrift_in}
 use Rattle.ada_quiet.proofs.frugal.frugal_by.Goals as goal
 
 -- what is known of one more, and what is left behind it, tell of all
 next : (types : List TypeDefinition) (outermost : List ℕ) (frugal more : List Bool) (here : Bool) (ps : List Procedure) (n : ℕ) (b : Procedure)
-    (all : List Bool) → n < length ps → b ≡ get_or ps n b → here ≡ is_frugal_body (thrift_in types outermost frugal) (body_form b) → more ≡ frugal ++ here ∷ []
+    (all : List Bool) → n < length ps → b ≡ get_or ps n b → here ≡ is_frugal_body (thrift_in types outermost (inert_types (types_in types)) frugal false) (body_form b) → more ≡ frugal ++ here ∷ []
     → frugal_from (types_in types) outermost frugal (map body_form (drop n ps)) ≡ all
     → frugal_from (types_in types) outermost more (map body_form (drop (n + 1) ps)) ≡ all
 next types outermost frugal more here ps n b all inside there is grown before =
@@ -31,7 +32,10 @@ procedures-preserved c =
     let inside = subst (λ (ps : List Procedure). index < length ps) c.deref-procedure-items.ensures.value c.procedures-test.true in
     let there = subst (λ (ps : List Procedure). b ≡ get_or ps index b) c.deref-procedure-items.ensures.value c.procedure-item.is in
     let is = c.is_frugal_body-is_frugal.ensures
-    ∙ ap (λ (types : List TypeDefinition). is_frugal_body (thrift_in types outermost c.deref-in-procedures.result.now) (body_form b)) c.deref.ensures.value
-    ∙ ap (λ (marks : List Bool). is_frugal_body (thrift_in program.types.items outermost marks) (body_form b)) c.deref-in-procedures.ensures.value in
+    ∙ ap (λ (types : List TypeDefinition). is_frugal_body (thrift_in types outermost c.args.inert.now c.deref-in-procedures.result.now false) (body_form b))
+    c.deref.ensures.value
+    ∙ ap (λ (marks : List Bool). is_frugal_body (thrift_in program.types.items outermost c.args.inert.now marks false) (body_form b))
+    c.deref-in-procedures.ensures.value
+    ∙ ap (λ (inert : List Bool). is_frugal_body (thrift_in program.types.items outermost inert frugal false) (body_form b)) c.requires in
     next program.types.items outermost frugal c.push.new.self.items c.is_frugal_body-is_frugal.result program.procedures.items index b _ inside there is
     c.in_ok-push.ensures.items c.procedures.invariant

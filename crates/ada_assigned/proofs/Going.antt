@@ -1,0 +1,224 @@
+-- Each step from a state of which the invariant holds: the records of an assignment are found, and the target lies inside of the formal parameter (5.2, 6.2, 7.6).
+
+use Rattle.std.proofs.Common.{◌≡◌, ℕ, ◌+◌, ◌<◌, Bool, true, false, List, [], ◌∷◌, Option, Some, refl, sym, ap, ◌∙◌, subst, arith}
+use Rattle.std.specs.List.{slice_get, slice_index_or, Contains}
+use Rattle.ada_program.specs.declared.program.Exception.{Exception}
+use Rattle.ada_program.specs.declared.program.TypeDefinition.{TypeDefinition}
+use Rattle.ada_program.specs.Controlled.{operations_of, procedure_number, shapes_of}
+use Rattle.ada_program.specs.Form.{RecordPathForm, ItemForm, null_item, item_of_path, item_of_value, item_of_record, StmtForm, assigns_record, StmtsForm, no_stmts, a_stmt}
+use Rattle.ada_program.specs.ProgramForm.{BodyForm}
+use Rattle.ada_program.specs.Typed.{width_of}
+use Rattle.ada_parts.specs.declared.tasks.Direction.TheVariants.{PartsFirst}
+use Rattle.ada_parts.specs.Part.{numbers, LiesIn}
+use Rattle.ada_parts.specs.Task.{Task}
+use Rattle.ada_parts.specs.Law.{parts_left}
+use Rattle.ada_meaning.specs.declared.state.Id.{Id}
+use Rattle.ada_meaning.specs.declared.state.Mode.{Mode}
+use Rattle.ada_meaning.specs.declared.state.Mode.TheVariants.{Running, Raising, Exiting, Returning}
+use Rattle.ada_meaning.specs.declared.state.Place.{Place}
+use Rattle.ada_meaning.specs.declared.state.Value.{Value}
+use Rattle.ada_meaning.specs.declared.state.Value.TheVariants.{Null, Names, Scalar, Part as Inside}
+use Rattle.ada_meaning.specs.Frame.{Frame}
+use Rattle.ada_meaning.specs.Frame as frame
+use Rattle.ada_meaning.specs.State.{Activation}
+use Rattle.ada_meaning.specs.Step.{halts, moves, tells, asks, picks, has_parts, record_tasks, first_or, operands, places_of, procedure_of, at, popped, newest, held, selected, place_in, copy_next, record_assign_next, stmts_next, running_next, jump_next, mode_next}
+use Rattle.ada_meaning.specs.Named.{Object, State, Next, next, named, look, refer, whole, same}
+use Rattle.ada_formals.specs.Formals.{RefersToOperated, OperationsRefer}
+use Rattle.ada_formals.proofs.Standing.{ends_operation}
+use Rattle.ada_typed.proofs.Kept.{Each}
+use Rattle.ada_assigned.proofs.Keeping.{IsAtHand, IsWithin, EndsInside, StmtsAssign, behind_body, Assignable, LiesInOperated, Keeps, AllKeep, OperationsAssign}
+use Rattle.ada_assigned.proofs.Steps.{first_assigns_parts, stmts_keep, running_keeps, jump_keeps}
+use Rattle.ada_assigned.proofs.Seeking.{Operated, Reaches, to_target, to_source, Sought, target_next, source_next, follows, reaches, both_known, Passes, by_assigns, by_refers, by_reference, Stands, keeps, seeks, fails, AllStand, Leads, operands_popped, path_stands, refers_stands, assigned_stands}
+use Rattle.ada_assigned.proofs.Lying.{record_within}
+
+-- What follows holds, too.
+each_follows : (P Q : State → Type 0) → ((s : State) → P s → Q s) → (n : Next) → Each P n → Each Q n
+each_follows P Q follows_it (halts halt) all = tt
+each_follows P Q follows_it (moves e s) all = follows_it s all
+each_follows P Q follows_it (tells request e s) all = follows_it s all
+each_follows P Q follows_it (asks request answers) all = λ granted. follows_it (answers granted) (all granted)
+each_follows P Q follows_it (picks n taking) all = λ i below. follows_it (taking i) (all i below)
+
+-- What the first variable holds.
+first_held : (places : List Value) (v : Value) → slice_get places 0 ≡ Some v → slice_index_or places 0 Null ≡ v
+first_held [] v is = absurd (cc)
+first_held (w ∷ places) v is = cc
+
+-- What the running body's operation is called for, where these activations are there.
+operated_here : (types : List TypeDefinition) (heap : List Object) (k : List (Frame Value)) (acts : List (Activation Value)) → OperationsRefer types heap k acts
+    → RefersToOperated types heap (behind_body k) (procedure_of acts) (places_of acts)
+operated_here types heap [] acts h = tt
+operated_here types heap (frame.Returns actuals references ∷ k) acts h = h.0
+operated_here types heap (f ∷ k) acts h = operated_here types heap k acts h
+
+module _ (types : List TypeDefinition) where
+  -- Where no operation waits, any reference will do.
+  any_operated : (j : List (Frame Value)) (t : ℕ) → ((w : Value) (left : List Task) → LiesInOperated types j w left) → (v : Value) → Operated types j t v
+  any_operated j t any Null = tt
+  any_operated j t any (Names o) = tt
+  any_operated j t any (Scalar v) = tt
+  any_operated j t any (Inside o place) = any (Names o) (record_tasks types t PartsFirst place.part)
+
+  module _ (p : RecordPathForm) (parts : has_parts types p.record_type ≡ true) where
+    -- The target is found in what a variable holds; or behind access values, where any reference will do.
+    abbrev TargetFits : List (Frame Value) → (selectors : List ℕ) → Value → Type 0
+    TargetFits j [] v = Operated types j p.record_type (refer (whole v) (place_in named v [] p))
+    TargetFits j (c ∷ cs) v = (w : Value) → Operated types j p.record_type w
+
+    any_fits : (j : List (Frame Value)) → ((w : Value) (left : List Task) → LiesInOperated types j w left) → (cs : List ℕ) (v : Value) → TargetFits j cs v
+    any_fits j any [] v = any_operated j p.record_type any (refer (whole v) (place_in named v [] p))
+    any_fits j any (c ∷ cs) v = any_operated j p.record_type any
+
+    -- In the formal parameter.
+    inner_lies : (of part : ℕ) → 0 < p.part → IsWithin types of p → (n : ℕ)
+        → Contains (numbers (parts_left (shapes_of types) (record_tasks types p.record_type PartsFirst (part + p.part)))) n
+        → LiesIn (shapes_of types) n (record { of = of; number = part })
+    inner_lies of part some inside n has =
+        let within = record_within types p.record_type (part + p.part) n has in
+        let from = within.0 in
+        let to = within.1 in
+        let fits = inside (omega (arith, from, to)) in
+        record { behind = omega (arith, from, some); within = omega (arith, to, fits) }
+
+    target_fits :
+        (heap : List Object) (j : List (Frame Value)) (procedure : Option ℕ) (places : List Value) → Assignable types j p
+        → RefersToOperated types heap j procedure places
+        → ((o : Id) (base : Place) (of : ℕ) → ends_operation j ≡ true → IsAtHand p → slice_get places 0 ≡ Some (Inside o base)
+        → procedure_number (operations_of types of).finalize ≡ procedure → IsWithin types of p) → (cs : List ℕ)
+        → p.object.selectors ≡ cs → TargetFits j cs (slice_index_or places p.object.root Null)
+    target_fits heap [] procedure places own refers ends cs is = any_fits [] (λ w left. tt) cs (slice_index_or places p.object.root Null)
+    target_fits heap (frame.Awaits v by done of part tasks ∷ j) procedure places own refers ends [] is =
+        let inner = own parts in
+        let held_first = ap (λ (x : ℕ). slice_index_or places x Null) inner.in_formal ∙ first_held places (Inside refers.1.0 (record { component = refers.1.1; part = part })) refers.1.3 in
+        subst (TargetFits (frame.Awaits v by done of part tasks ∷ j) []) (sym held_first) (refers.1.2, inner_lies of part inner.behind inner.within)
+    target_fits heap (frame.Awaits v by done of part tasks ∷ j) procedure places own refers ends (c ∷ cs) is =
+        let none = sym (own parts).at_hand ∙ is in
+        absurd (cc none)
+    target_fits heap (frame.Confines ∷ j) procedure places own refers ends [] is =
+        let hand = own parts in
+        let of = refers.0 in
+        let part = refers.1 in
+        let formal = refers.3 in
+        let base : Place = record { component = formal.1; part = part } in
+        let held_first = ap (λ (x : ℕ). slice_index_or places x Null) hand.in_formal ∙ first_held places (Inside formal.0 base) formal.3 in
+        let inside = ends formal.0 base of refl hand formal.3 refers.2 in
+        subst (TargetFits (frame.Confines ∷ j) []) (sym held_first) (formal.2, λ n has. refers.4 n (inner_lies of part hand.behind inside n has))
+    target_fits heap (frame.Confines ∷ j) procedure places own refers ends (c ∷ cs) is =
+        let none = sym (own parts).at_hand ∙ is in
+        absurd (cc none)
+    target_fits heap (f ∷ j) procedure places own refers ends cs is = any_fits (f ∷ j) (λ w left. tt) cs (slice_index_or places p.object.root Null)
+
+    target_leads :
+        (q : RecordPathForm) (fs : StmtsForm) (k : List (Frame Value)) (pending : List Value) → Keeps types (frame.Does fs ∷ k) → (cs : List ℕ) (v : Value)
+        → TargetFits (behind_body k) cs v
+        → Leads types (selected named v cs) (whole v) pending (place_in named v cs p) (frame.Refers q ∷ frame.Assigns p.record_type ∷ frame.Does fs ∷ k)
+    target_leads q fs k pending h [] v fits = to_target q p.record_type fs k fits h
+    target_leads q fs k pending h (c ∷ cs) v fits =
+        λ w. to_target q p.record_type fs k (fits (refer w (place_in named v (c ∷ cs) p))) h
+
+  -- The source may lie anywhere.
+  source_leads :
+      (t : ℕ) (fs : StmtsForm) (k : List (Frame Value)) (pending : List Value) (place : Place) → Operated types (behind_body k) t (first_or Null pending)
+      → Keeps types (frame.Does fs ∷ k) → (cs : List ℕ) (v : Value) → Leads types cs v pending place (frame.Assigns t ∷ frame.Does fs ∷ k)
+  source_leads t fs k pending place own h [] v = to_source t fs k own h
+  source_leads t fs k pending place own h (c ∷ cs) v = λ w. to_source t fs k own h
+
+  -- A statement begins to find them.
+  copy_stands :
+      (target : RecordPathForm) (items : List ItemForm) (fs : StmtsForm) (k : List (Frame Value)) (s : State) → s.mode ≡ Running
+      → has_parts types target.record_type ≡ true → Assignable types (behind_body k) target → Keeps types (frame.Does fs ∷ k)
+      → AllStand types (copy_next named target items (at (frame.Does fs ∷ k) s))
+  copy_stands target [] fs k s on parts own h = tt
+  copy_stands target (null_item ∷ items) fs k s on parts own h = tt
+  copy_stands target (item_of_path path ∷ items) fs k s on parts own h = tt
+  copy_stands target (item_of_value e ∷ items) fs k s on parts own h = tt
+  copy_stands target (item_of_record source ∷ []) fs k s on parts own h = seeks on (target_next target source fs k parts own h)
+  copy_stands target (item_of_record source ∷ i ∷ items) fs k s on parts own h = tt
+
+module _ (types : List TypeDefinition) (bodies : List BodyForm) (operations : OperationsAssign types bodies) where
+  all_stand : (n : Next) → AllKeep types n → AllStand types n
+  all_stand n all = each_follows (λ (s : State). Keeps types s.control) (Stands types) (λ s h. keeps h) n all
+
+  -- Statements, by whether the first assigns to a record with controlled parts.
+  parts_stand :
+      (parts : Bool) (target : RecordPathForm) (items : List ItemForm) (fs : StmtsForm) (k : List (Frame Value)) (s : State) → s.mode ≡ Running
+      → has_parts types target.record_type ≡ parts → StmtsAssign (Assignable types (behind_body k)) (a_stmt (assigns_record target items) fs) → Keeps types k
+      → AllStand types (stmts_next named types bodies (a_stmt (assigns_record target items) fs) (at k s))
+  parts_stand false target items fs k s on is own h =
+      all_stand (stmts_next named types bodies (a_stmt (assigns_record target items) fs) (at k s))
+      (stmts_keep types bodies operations (a_stmt (assigns_record target items) fs) (at k s) is own h)
+  parts_stand true target items fs k s on is own h =
+      subst (λ (parts : Bool). AllStand types (record_assign_next named parts target items (at (frame.Does fs ∷ k) s))) (sym is)
+      (copy_stands types target items fs k s on is own.0 (own.1, h))
+
+  plain_stand :
+      (f : StmtForm) (fs : StmtsForm) (k : List (Frame Value)) (s : State) → first_assigns_parts types (a_stmt f fs) ≡ false
+      → StmtsAssign (Assignable types (behind_body k)) (a_stmt f fs) → Keeps types k → AllStand types (stmts_next named types bodies (a_stmt f fs) (at k s))
+  plain_stand f fs k s none own h =
+      all_stand (stmts_next named types bodies (a_stmt f fs) (at k s)) (stmts_keep types bodies operations (a_stmt f fs) (at k s) none own h)
+
+  stmts_stand : (fs : StmtsForm) (k : List (Frame Value)) (s : State) → s.mode ≡ Running → StmtsAssign (Assignable types (behind_body k)) fs → Keeps types k
+      → AllStand types (stmts_next named types bodies fs (at k s))
+  stmts_stand no_stmts k s on own h = keeps h
+  stmts_stand (a_stmt (assigns_record target items) fs) k s on own h = parts_stand (has_parts types target.record_type) target items fs k s on refl own h
+  stmts_stand (a_stmt f fs) k s on own h = plain_stand f fs k s refl own h
+
+  running_stands : (k : List (Frame Value)) (s : State) → s.mode ≡ Running → Keeps types k → AllStand types (running_next named types bodies k s)
+  running_stands [] s on h = tt
+  running_stands (frame.Does fs ∷ k) s on h = stmts_stand fs k s on h.0 h.1
+  running_stands (f ∷ k) s on h = all_stand (running_next named types bodies (f ∷ k) s) (running_keeps types bodies operations (f ∷ k) s refl h)
+
+  -- Records are found.
+  seeking_stands :
+      (k : List (Frame Value)) (s : State) → s.mode ≡ Running → OperationsRefer types s.heap k s.activations → EndsInside types k s.activations
+      → Sought types (operands s) k → AllStand types (running_next named types bodies k s)
+  seeking_stands _ s on refers ends (target_next p q fs k parts own h) =
+      let v = held named s p.object.root in
+      let cs = p.object.selectors in
+      path_stands types (place_in named v cs p) p.record_type (frame.Refers q ∷ frame.Assigns p.record_type ∷ frame.Does fs ∷ k) (selected named v cs) (whole v) s on
+      (target_leads types p parts q fs k (operands s) h cs v
+      (target_fits types p parts s.heap (behind_body k) (procedure_of s.activations) (places_of s.activations) own (operated_here types s.heap k s.activations refers)
+      (λ o base of. ends p (frame.Refers q ∷ frame.Assigns p.record_type ∷ frame.Does fs ∷ k) o base of refl) cs refl))
+  seeking_stands _ s on refers ends (source_next q t fs k own h) =
+      let v = held named s q.object.root in
+      let cs = q.object.selectors in
+      path_stands types (place_in named v cs q) q.record_type (frame.Assigns t ∷ frame.Does fs ∷ k) (selected named v cs) (whole v) s on
+      (source_leads types t fs k (operands s) (place_in named v cs q) own h (selected named v cs) (whole v))
+  seeking_stands _ s on refers ends (follows cs place u behind h) =
+      path_stands types place u behind cs (newest named s) (popped s) on
+      (any_leads cs (λ w. subst (λ (ops : List Value). Reaches types w ops place behind) (sym (operands_popped s)) (h w)))
+    where
+      any_leads : (cs : List ℕ) → ((w : Value) → Reaches types w (operands (popped s)) place behind) → Leads types cs (newest named s) (operands (popped s)) place behind
+      any_leads [] any = any (newest named s)
+      any_leads (c ∷ cs) any = any
+  seeking_stands _ s on refers ends (reaches place u behind h) =
+      refers_stands types (newest named s) place (width_of types u) (look s.heap (newest named s)) behind (popped s) on
+      (subst (λ (ops : List Value). Reaches types (newest named s) ops place behind) (sym (operands_popped s)) h)
+  seeking_stands _ s on refers ends (both_known t fs k own h) =
+      let target = newest named (popped s) in
+      let source = newest named s in
+      assigned_stands types t fs k target source (same target source) (popped (popped s)) refl
+      (subst (λ (ops : List Value). Operated types (behind_body k) t (first_or Null ops)) (sym (operands_popped s)) own) h
+
+  -- An exception comes out of that.
+  failing_stands : (e : Exception) (k : List (Frame Value)) (s : State) → s.mode ≡ Raising e → Passes types k → AllStand types (jump_next named (Raising e) k s)
+  failing_stands e _ s raising (by_assigns t k h) = keeps h
+  failing_stands e _ s raising (by_refers p k h) = fails e raising h
+  failing_stands e _ s raising (by_reference place u k h) = fails e raising h
+
+  -- Whatever comes next.
+  kept_stands : (m : Mode) (s : State) → s.mode ≡ m → Keeps types s.control → AllStand types (mode_next named types bodies m s)
+  kept_stands Running s is h = running_stands s.control s is h
+  kept_stands (Raising e) s is h = all_stand (jump_next named (Raising e) s.control s) (jump_keeps types bodies operations (Raising e) s.control s h)
+  kept_stands Exiting s is h = all_stand (jump_next named Exiting s.control s) (jump_keeps types bodies operations Exiting s.control s h)
+  kept_stands Returning s is h = all_stand (jump_next named Returning s.control s) (jump_keeps types bodies operations Returning s.control s h)
+
+  pub next_stands :
+      (s : State) → OperationsRefer types s.heap s.control s.activations → (s.mode ≡ Running → EndsInside types s.control s.activations) → Stands types s
+      → AllStand types (next types bodies s)
+  unfolding next
+  next_stands s refers ends (keeps h) = kept_stands s.mode s refl h
+  next_stands s refers ends (seeks on h) =
+      subst (λ (m : Mode). AllStand types (mode_next named types bodies m s)) (sym on) (seeking_stands s.control s on refers (ends on) h)
+  next_stands s refers ends (fails e raising h) =
+      subst (λ (m : Mode). AllStand types (mode_next named types bodies m s)) (sym raising) (failing_stands e s.control s raising h)

@@ -1,0 +1,35 @@
+-- A program whose Initialize assigns to a component of its formal parameter, and what a run of it shows.
+
+use Rattle.std.specs.Prelude.{◌≡◌, ℕ, true, List, [], ◌∷◌}
+use Rattle.ada_program.specs.declared.program.Program.{Program}
+use Rattle.ada_program.specs.Controlled.{shapes_of, operations_of}
+use Rattle.ada_program.specs.Form.{stmt_forms}
+use Rattle.ada_program.specs.ProgramForm.{BodyForm, program_form, body_forms}
+use Rattle.ada_program.specs.WellFormed.{IsWellFormed}
+use Rattle.ada_parts.specs.Task.{Task}
+use Rattle.ada_meaning.specs.declared.event.Cause.TheVariants.{Assigning}
+use Rattle.ada_meaning.specs.declared.state.Value.{Value}
+use Rattle.ada_meaning.specs.Frame.{Frame, ends, Treats, Copies}
+use Rattle.ada_meaning.specs.Named.{State}
+use Rattle.ada_order.specs.Example.{InSomeRun}
+use Rattle.ada_finalized.specs.Example.{controlled_shapes, object_x, object_stmts, outer_operations}
+use Rattle.ada_finalized.specs.Nested.{assigns_component}
+use Rattle.ada_assigned.specs.Law.{RunsAlone, operations_assign_inside}
+
+-- procedure Initialize (X : in out Outer) is Y : Inner; begin X.C := Y; end;
+abbrev pub assigning_initialize : BodyForm
+assigning_initialize = assigns_component 3 4 0
+
+-- The component of X is finalized next, by an assignment, while the Initialize of X runs, and no other operation of X does.
+abbrev pub AssignsToComponent : State → Type 0
+AssignsToComponent s =
+    (number : ℕ) × (tasks : List Task) × (first : ℕ) × (t : ℕ) × (k : List (Frame Value))
+    × (s.control ≡ Treats object_x (ends (Assigning number)) tasks ∷ Copies first t ∷ k) × RunsAlone object_x k
+
+-- A well-formed program with the controlled types Inner and Outer, in which Outer overrides Initialize so, and creates X of that type, meets the premises of the
+-- law: its operations assign inside, and in a run of it Initialize assigns to the component of X.
+abbrev pub InitializeAssignsInside : Type 0
+InitializeAssignsInside =
+    (program : Program) × (shapes_of program.types.items ≡ controlled_shapes) × (operations_of program.types.items 1 ≡ outer_operations)
+    × (body_forms program ≡ assigning_initialize ∷ []) × (stmt_forms program ≡ object_stmts) × IsWellFormed (program_form program)
+    × (operations_assign_inside (program_form program) ≡ true) × InSomeRun program (λ events last. AssignsToComponent last)

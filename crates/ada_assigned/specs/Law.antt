@@ -1,0 +1,107 @@
+-- Records with controlled parts that operations assign to as wholes (5.2, 7.6): an Initialize, an Adjust and a Finalize do so inside of their formal parameters.
+
+use Rattle.std.specs.Prelude.{◌≡◌, ℕ, ℤ, Bool, true, false, not, ◌&&◌, ◌||◌, ◌==◌, List, [], ◌∷◌, Option, Some, None, is_some}
+use Rattle.std.specs.List.{list_all, slice_get}
+use Rattle.ada_parts.specs.Task.{Task}
+use Rattle.ada_program.specs.declared.program.Finalization.{Finalization}
+use Rattle.ada_program.specs.declared.program.ProcedureNo.{ProcedureNo}
+use Rattle.ada_program.specs.declared.program.Program.{Program}
+use Rattle.ada_program.specs.Form.{RecordPathForm, StmtForm, skips, assigns, assigns_record, frees, gets, writes, writes_text, chooses, repeats, counts, exits, calls, returns, raises, encloses, StmtsForm, no_stmts, a_stmt, BranchesForm, otherwise, a_branch, HandlersForm, no_handlers, a_handler}
+use Rattle.ada_program.specs.ProgramForm.{TypeForm, BodyForm, ProgramForm, program_form}
+use Rattle.ada_program.specs.WellFormed.{IsWellFormed, finalization_in, finalization_of}
+use Rattle.ada_meaning.specs.declared.event.Cause.TheVariants.{Assigning}
+use Rattle.ada_meaning.specs.declared.event.Halt.TheVariants.{Erroneous}
+use Rattle.ada_meaning.specs.declared.event.Why.TheVariants.{FinalizesTwice}
+use Rattle.ada_meaning.specs.declared.state.Value.{Value}
+use Rattle.ada_meaning.specs.Frame.{Frame, ends}
+use Rattle.ada_meaning.specs.Frame as frame
+use Rattle.ada_meaning.specs.Named.{State}
+use Rattle.ada_meaning.specs.Run.{Event, Run, Halts, first_state}
+use Rattle.ada_finalized.specs.Law.{NoOperationRunsOn, finalized_before}
+
+-- Nothing is selected behind a variable (4.1).
+abbrev pub is_empty : (selectors : List ℕ) → Bool
+is_empty [] = true
+is_empty (c ∷ cs) = false
+
+-- A record lies in the formal parameter of an operation, which is the first variable, and is not that as a whole. No access value is followed on the way (4.1).
+abbrev pub lies_at_hand : RecordPathForm → Bool
+lies_at_hand target = target.object.of_record && is_empty target.object.selectors && target.object.root == 0 && not (target.part == 0)
+
+module _ (may : RecordPathForm → Bool) (types : List TypeForm) where
+  abbrev mutual
+    -- A statement assigns to records with controlled parts as wholes only where it may (5.2).
+    pub assigns_inside : StmtForm → Bool
+    assigns_inside skips = true
+    assigns_inside (assigns target right) = true
+    assigns_inside (assigns_record target items) = not (is_some (finalization_of types target.record_type)) || may target
+    assigns_inside (frees access path) = true
+    assigns_inside (gets target) = true
+    assigns_inside (writes e) = true
+    assigns_inside (writes_text text) = true
+    assigns_inside (chooses branches) = branches_assign_inside branches
+    assigns_inside (repeats condition fs spot) = all_assign_inside fs
+    assigns_inside (counts x low high fs spot) = all_assign_inside fs
+    assigns_inside (exits condition spot) = true
+    assigns_inside (calls procedure actuals) = true
+    assigns_inside (returns spot) = true
+    assigns_inside (raises e) = true
+    assigns_inside (encloses ds fs hs) = all_assign_inside fs && handlers_assign_inside hs
+
+    -- So it is with statements.
+    pub all_assign_inside : StmtsForm → Bool
+    all_assign_inside no_stmts = true
+    all_assign_inside (a_stmt f fs) = assigns_inside f && all_assign_inside fs
+
+    -- So it is with branches (5.3).
+    pub branches_assign_inside : BranchesForm → Bool
+    branches_assign_inside (otherwise fs) = all_assign_inside fs
+    branches_assign_inside (a_branch e fs branches) = all_assign_inside fs && branches_assign_inside branches
+
+    -- So it is with handlers (11.2).
+    pub handlers_assign_inside : HandlersForm → Bool
+    handlers_assign_inside no_handlers = true
+    handlers_assign_inside (a_handler choices fs hs) = all_assign_inside fs && handlers_assign_inside hs
+
+  -- So it is with a body.
+  abbrev pub body_assigns_inside : BodyForm → Bool
+  body_assigns_inside b = all_assign_inside b.statements && handlers_assign_inside b.handlers
+
+  -- So it is with the body of a procedure that was found.
+  abbrev pub procedure_assigns_inside : Option BodyForm → Bool
+  procedure_assigns_inside None = true
+  procedure_assigns_inside (Some b) = body_assigns_inside b
+
+-- So it is with what overrides an operation, if one is overridden (7.6).
+abbrev pub operation_assigns_inside : (may : RecordPathForm → Bool) → ProgramForm → Option ProcedureNo → Bool
+operation_assigns_inside may p None = true
+operation_assigns_inside may p (Some procedure) = procedure_assigns_inside may p.types (slice_get p.bodies procedure.0)
+
+-- So it is with each operation of a type: an Initialize, an Adjust and a Finalize assign inside of their formal parameters.
+abbrev pub type_assigns_inside : ProgramForm → Option Finalization → Bool
+type_assigns_inside p None = true
+type_assigns_inside p (Some f) =
+    operation_assigns_inside lies_at_hand p f.operations.initialize && operation_assigns_inside lies_at_hand p f.operations.adjust
+    && operation_assigns_inside lies_at_hand p f.operations.finalize
+
+-- So it is with each operation of each type of a program.
+abbrev pub operations_assign_inside : ProgramForm → Bool
+operations_assign_inside p = list_all (λ t. type_assigns_inside p (finalization_in (Some t))) p.types
+
+-- Behind the body that runs an operation waits for it (7.6); and where that is one of this object, no other operation of the object does.
+abbrev pub RunsAlone : Value → List (Frame Value) → Type 0
+RunsAlone v [] = ⊥
+RunsAlone v (frame.Returns actuals references ∷ frame.Awaits w by done of part tasks ∷ k) = (w ≡ v → NoOperationRunsOn v k)
+RunsAlone v (frame.Returns actuals references ∷ frame.Confines ∷ k) = (finalized_before k ≡ v → NoOperationRunsOn v k)
+RunsAlone v (frame.Returns actuals references ∷ k) = ⊥
+RunsAlone v (f ∷ k) = RunsAlone v k
+
+-- In every run of a well-formed program whose operations assign so: while the body of an operation assigns to a record, and no other operation of the object of
+-- that operation runs, if the record lies in that object, no value is finalized there that does not exist (7.6.1).
+abbrev pub AssignmentsInsideStand : Type 0
+AssignmentsInsideStand =
+    (program : Program) → IsWellFormed (program_form program) → operations_assign_inside (program_form program) ≡ true
+    → (input : List ℤ) (events : List Event) (last : State) → Run program (first_state program input) events last
+    → (object : Value) (number : ℕ) (tasks : List Task) (first t : ℕ) (k : List (Frame Value))
+    → last.control ≡ frame.Treats object (ends (Assigning number)) tasks ∷ frame.Copies first t ∷ k → RunsAlone object k
+    → Halts program last (Erroneous FinalizesTwice) → ⊥

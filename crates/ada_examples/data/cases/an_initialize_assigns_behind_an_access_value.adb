@@ -1,0 +1,18 @@
+with Ada.Finalization; with Ada.Text_IO;
+procedure Main is
+   type Tally is new Ada.Finalization.Controlled with record Count : Integer := 1; end record;
+   type Link is access Tally;
+   type Board is new Ada.Finalization.Limited_Controlled with record Sum : Integer := 0; end record;
+   overriding procedure Initialize (Object : in out Board);
+   overriding procedure Initialize (Object : in out Board) is
+      B : Tally;
+      P : Link := new Tally;
+   begin
+      B.Count := 8;
+      P.all := B;
+      Object.Sum := P.Count;
+   end Initialize;
+   B : Board;
+begin
+   Ada.Text_IO.Put_Line (Integer'Image (B.Sum));
+end Main;

@@ -1,0 +1,35 @@
+use Rattle.std.proofs.Common.{◌≡◌, ℕ, Bool, true, List, [], map, refl, ap, ◌∙◌}
+use Rattle.std.specs.Global.{Vec}
+use Rattle.std.specs.Prelude.{Result, Ok, Err, IfOk}
+use Rattle.ada_program.specs.declared.program.TypeDefinition.{TypeDefinition}
+use Rattle.ada_program.specs.Kept.{types_in}
+use Rattle.ada_program.specs.Nested.{collected, is_one_of}
+use Rattle.ada_program.specs.ProgramForm.{BodyForm, ProgramForm, program_form}
+use Rattle.ada_quiet.specs.Calm.{inert_types}
+use Rattle.ada_quiet.specs.Frugal.{Thrift, is_frugal_body, frugal_from, frugal_operations, thrift_of}
+use Rattle.ada_quiet.specs.Known.{marked_in, thrift_in}
+use Rattle.ada_quiet.proofs.FrugalAt.{frugal_alike, tests_alike, thrift_alike}
+use Rattle.ada_quiet.proofs.MarkedNumbers.{marked_told}
+use Rattle.ada_quiet.proofs.frugal.frugal_operations.Goals as goal
+
+-- what is told by the marks is told by the collections that they are made from
+by_marks : {E : Type 0} (found : Result (Vec Bool) E) (p : ProgramForm) (thrift : Thrift)
+    → ((b : BodyForm) → is_frugal_body thrift b ≡ is_frugal_body (thrift_of p) b)
+    → IfOk found (λ frugal. frugal.items ≡ map (is_frugal_body thrift) p.bodies) → IfOk found (λ frugal. frugal.items ≡ frugal_operations p)
+by_marks (Ok frugal) p thrift same is = is ∙ tests_alike (is_frugal_body thrift) (is_frugal_body (thrift_of p)) same p.bodies
+by_marks (Err e) p thrift same is = is
+
+pub returns : goal.returns
+returns c =
+    let program = c.args.program.now in
+    let p = program_form program in
+    let marks = c.in_ok-outermost.outermost.items in
+    let outermost = λ (t : ℕ). marked_told marks t ∙ c.in_ok-outermost.ensures t in
+    let procedures = c.deref-6.ensures.value ∙ c.in_ok-procedures.ensures
+    ∙ ap (λ (ms : List Bool). frugal_from p.types (marked_in ms) [] p.bodies) c.deref-2.ensures.value
+    ∙ frugal_alike p.types (marked_in marks) (collected p.declarations) outermost [] p.bodies in
+    let inert = c.deref-5.ensures.value ∙ c.in_ok-inert.ensures ∙ ap (λ (ts : List TypeDefinition). inert_types (types_in ts)) c.deref.ensures.value in
+    let thrift = thrift_in program.types.items (marked_in c.deref-4.result.now) c.deref-5.result.now c.deref-6.result.now true in
+    by_marks c.frugal_operations_by.result p thrift
+    (thrift_alike thrift (thrift_of p) refl (λ t. ap (λ (ms : List Bool). is_one_of (marked_in ms) t) c.deref-4.ensures.value ∙ outermost t) inert procedures refl)
+    c.frugal_operations_by.ensures
