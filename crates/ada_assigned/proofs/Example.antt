@@ -44,7 +44,7 @@ types =
 abbrev object_of : ℕ → Variable
 object_of t = record { name = no_name; spot = spot; kind = variable.Record (record { 0 = t }); borrows = false }
 
-abbrev inner_path : (x part : ℕ) → RecordPath
+abbrev pub inner_path : (x part : ℕ) → RecordPath
 inner_path x part = record {
   object = record { root = record { 0 = x }; of_record = true; selectors = vec [] (omega arith); spot = spot };
   first = record { 0 = 0 };
@@ -52,7 +52,7 @@ inner_path x part = record {
   «record» = record { 0 = 0 };
 }
 
-abbrev initialize : Procedure
+abbrev pub initialize : Procedure
 initialize = record {
   formals = vec (InOut ∷ []) (omega arith);
   variables = vec (object_of 3 ∷ object_of 4 ∷ []) (omega arith);
@@ -68,7 +68,7 @@ block =
     stmt.Block (vec (declaration.Record (record { 0 = 0 }) (record { 0 = 2 }) None ∷ []) (omega arith)) (vec (stmt.Null ∷ []) (omega arith))
     (vec [] (omega arith))
 
-abbrev program : Program
+abbrev pub program : Program
 program = record {
   types = vec types (omega arith);
   pools = vec [] (omega arith);

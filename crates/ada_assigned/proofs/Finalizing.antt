@@ -40,7 +40,7 @@ module _ (types : List TypeDefinition) (bodies : List BodyForm) (heap : List Obj
   formal_of procedure places (frame.Confines ∷ j) h is = h.1
   formal_of procedure places (f ∷ j) h is = absurd (cc is)
 
-  formal_behind :
+  pub formal_behind :
       (k : List (Frame Value)) (procedure : Option ℕ) (places : List Value) (suspended : List (Activation Value)) → FormalsStand types bodies heap k procedure places suspended
       → ends_operation (behind_body k) ≡ true → IsRecordFormal bodies procedure 0
   formal_behind [] procedure places suspended h is = absurd (cc is)

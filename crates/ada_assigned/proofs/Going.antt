@@ -1,6 +1,7 @@
--- Each step from a state of which the invariant holds: the records of an assignment are found, and the target lies inside of the formal parameter (5.2, 6.2, 7.6).
+-- Each step from a state of which the invariant holds: the records of an assignment are found, and the target lies inside of the formal parameter, or in an object
+-- that the body declares (5.2, 6.2, 7.6, 3.3.1).
 
-use Rattle.std.proofs.Common.{◌≡◌, ℕ, ◌+◌, ◌<◌, Bool, true, false, List, [], ◌∷◌, Option, Some, refl, sym, ap, ◌∙◌, subst, arith}
+use Rattle.std.proofs.Common.{◌≡◌, ℕ, zero, suc, ◌+◌, ◌<◌, Bool, true, false, List, [], ◌∷◌, Option, Some, refl, sym, ap, ◌∙◌, subst, arith, ◌⊎◌, inl, inr}
 use Rattle.std.specs.List.{slice_get, slice_index_or, Contains}
 use Rattle.ada_program.specs.declared.program.Exception.{Exception}
 use Rattle.ada_program.specs.declared.program.TypeDefinition.{TypeDefinition}
@@ -9,7 +10,8 @@ use Rattle.ada_program.specs.Form.{RecordPathForm, ItemForm, null_item, item_of_
 use Rattle.ada_program.specs.ProgramForm.{BodyForm}
 use Rattle.ada_program.specs.Typed.{width_of}
 use Rattle.ada_parts.specs.declared.tasks.Direction.TheVariants.{PartsFirst}
-use Rattle.ada_parts.specs.Part.{numbers, LiesIn}
+use Rattle.ada_meaning.specs.declared.event.Birth.{Birth}
+use Rattle.ada_parts.specs.Part.{Part, numbers, LiesIn}
 use Rattle.ada_parts.specs.Task.{Task}
 use Rattle.ada_parts.specs.Law.{parts_left}
 use Rattle.ada_meaning.specs.declared.state.Id.{Id}
@@ -25,8 +27,9 @@ use Rattle.ada_meaning.specs.Step.{halts, moves, tells, asks, picks, has_parts, 
 use Rattle.ada_meaning.specs.Named.{Object, State, Next, next, named, look, refer, whole, same}
 use Rattle.ada_formals.specs.Formals.{RefersToOperated, OperationsRefer}
 use Rattle.ada_formals.proofs.Standing.{ends_operation}
+use Rattle.ada_declared.specs.Declared.{StandsApart}
 use Rattle.ada_typed.proofs.Kept.{Each}
-use Rattle.ada_assigned.proofs.Keeping.{IsAtHand, IsWithin, EndsInside, StmtsAssign, behind_body, Assignable, LiesInOperated, Keeps, AllKeep, OperationsAssign}
+use Rattle.ada_assigned.proofs.Keeping.{IsAtHand, IsBeside, IsInner, IsWithin, EndsInside, DeclaresBeside, StmtsAssign, behind_body, Assignable, LiesInOperated, Keeps, AllKeep, OperationsAssign}
 use Rattle.ada_assigned.proofs.Steps.{first_assigns_parts, stmts_keep, running_keeps, jump_keeps}
 use Rattle.ada_assigned.proofs.Seeking.{Operated, Reaches, to_target, to_source, Sought, target_next, source_next, follows, reaches, both_known, Passes, by_assigns, by_refers, by_reference, Stands, keeps, seeks, fails, AllStand, Leads, operands_popped, path_stands, refers_stands, assigned_stands}
 use Rattle.ada_assigned.proofs.Lying.{record_within}
@@ -57,7 +60,7 @@ module _ (types : List TypeDefinition) where
   any_operated j t any Null = tt
   any_operated j t any (Names o) = tt
   any_operated j t any (Scalar v) = tt
-  any_operated j t any (Inside o place) = any (Names o) (record_tasks types t PartsFirst place.part)
+  any_operated j t any (Inside o place) = inl (any (Names o) (record_tasks types t PartsFirst place.part))
 
   module _ (p : RecordPathForm) (parts : has_parts types p.record_type ≡ true) where
     -- The target is found in what a variable holds; or behind access values, where any reference will do.
@@ -80,33 +83,66 @@ module _ (types : List TypeDefinition) where
         let fits = inside (omega (arith, from, to)) in
         record { behind = omega (arith, from, some); within = omega (arith, to, fits) }
 
-    target_fits :
-        (heap : List Object) (j : List (Frame Value)) (procedure : Option ℕ) (places : List Value) → Assignable types j p
-        → RefersToOperated types heap j procedure places
-        → ((o : Id) (base : Place) (of : ℕ) → ends_operation j ≡ true → IsAtHand p → slice_get places 0 ≡ Some (Inside o base)
-        → procedure_number (operations_of types of).finalize ≡ procedure → IsWithin types of p) → (cs : List ℕ)
-        → p.object.selectors ≡ cs → TargetFits j cs (slice_index_or places p.object.root Null)
-    target_fits heap [] procedure places own refers ends cs is = any_fits [] (λ w left. tt) cs (slice_index_or places p.object.root Null)
-    target_fits heap (frame.Awaits v by done of part tasks ∷ j) procedure places own refers ends [] is =
-        let inner = own parts in
-        let held_first = ap (λ (x : ℕ). slice_index_or places x Null) inner.in_formal ∙ first_held places (Inside refers.1.0 (record { component = refers.1.1; part = part })) refers.1.3 in
-        subst (TargetFits (frame.Awaits v by done of part tasks ∷ j) []) (sym held_first) (refers.1.2, inner_lies of part inner.behind inner.within)
-    target_fits heap (frame.Awaits v by done of part tasks ∷ j) procedure places own refers ends (c ∷ cs) is =
-        let none = sym (own parts).at_hand ∙ is in
-        absurd (cc none)
-    target_fits heap (frame.Confines ∷ j) procedure places own refers ends [] is =
-        let hand = own parts in
-        let of = refers.0 in
-        let part = refers.1 in
-        let formal = refers.3 in
-        let base : Place = record { component = formal.1; part = part } in
-        let held_first = ap (λ (x : ℕ). slice_index_or places x Null) hand.in_formal ∙ first_held places (Inside formal.0 base) formal.3 in
-        let inside = ends formal.0 base of refl hand formal.3 refers.2 in
-        subst (TargetFits (frame.Confines ∷ j) []) (sym held_first) (formal.2, λ n has. refers.4 n (inner_lies of part hand.behind inside n has))
-    target_fits heap (frame.Confines ∷ j) procedure places own refers ends (c ∷ cs) is =
-        let none = sym (own parts).at_hand ∙ is in
-        absurd (cc none)
-    target_fits heap (f ∷ j) procedure places own refers ends cs is = any_fits (f ∷ j) (λ w left. tt) cs (slice_index_or places p.object.root Null)
+    -- In an object of which no operation is awaited.
+    beside_fits : (j : List (Frame Value)) (place : Place) (v : Value) → StandsApart v j → Operated types j p.record_type (refer (whole v) place)
+    beside_fits j place Null none = tt
+    beside_fits j place (Names o) none = inr none
+    beside_fits j place (Scalar held_value) none = tt
+    beside_fits j place (Inside o base) none = inr none
+
+    held_apart : (j : List (Frame Value)) (places : List Value) (x : ℕ) → ((v : Value) → slice_get places x ≡ Some v → StandsApart v j) → StandsApart (slice_index_or places x Null) j
+    held_apart j [] x none = tt
+    held_apart j (v ∷ places) zero none = none v refl
+    held_apart j (v ∷ places) (suc x) none = held_apart j places x none
+
+    module _ (heap : List Object) (procedure : Option ℕ) (places : List Value) where
+      -- Where the body begins a part, or ends one, by where the target lies.
+      begins_fits :
+          (v : Value) (by : Birth) (done : List Part) (of part : ℕ) (tasks : List Task) (j : List (Frame Value)) → IsInner types of p ⊎ IsBeside p
+          → RefersToOperated types heap (frame.Awaits v by done of part tasks ∷ j) procedure places
+          → (IsBeside p → (u : Value) → slice_get places p.object.root ≡ Some u → StandsApart u (frame.Awaits v by done of part tasks ∷ j)) → (cs : List ℕ)
+          → p.object.selectors ≡ cs → TargetFits (frame.Awaits v by done of part tasks ∷ j) cs (slice_index_or places p.object.root Null)
+      begins_fits v by done of part tasks j (inl inner) refers apart [] is =
+          let held_first = ap (λ (x : ℕ). slice_index_or places x Null) inner.in_formal ∙ first_held places (Inside refers.1.0 (record { component = refers.1.1; part = part })) refers.1.3 in
+          subst (TargetFits (frame.Awaits v by done of part tasks ∷ j) []) (sym held_first) (inl (refers.1.2, inner_lies of part inner.behind inner.within))
+      begins_fits v by done of part tasks j (inr other) refers apart [] is =
+          beside_fits (frame.Awaits v by done of part tasks ∷ j) (place_in named (slice_index_or places p.object.root Null) [] p) (slice_index_or places p.object.root Null)
+          (held_apart (frame.Awaits v by done of part tasks ∷ j) places p.object.root (apart other))
+      begins_fits v by done of part tasks j (inl inner) refers apart (c ∷ cs) is = let none = sym inner.at_hand ∙ is in absurd (cc none)
+      begins_fits v by done of part tasks j (inr other) refers apart (c ∷ cs) is = let none = sym other.at_hand ∙ is in absurd (cc none)
+
+      ends_fits :
+          (j : List (Frame Value)) → IsAtHand p ⊎ IsBeside p → RefersToOperated types heap (frame.Confines ∷ j) procedure places
+          → ((o : Id) (base : Place) (of : ℕ) → IsAtHand p → slice_get places 0 ≡ Some (Inside o base)
+          → procedure_number (operations_of types of).finalize ≡ procedure → IsWithin types of p)
+          → (IsBeside p → (u : Value) → slice_get places p.object.root ≡ Some u → StandsApart u (frame.Confines ∷ j)) → (cs : List ℕ) → p.object.selectors ≡ cs
+          → TargetFits (frame.Confines ∷ j) cs (slice_index_or places p.object.root Null)
+      ends_fits j (inl hand) refers ends apart [] is =
+          let of = refers.0 in
+          let part = refers.1 in
+          let formal = refers.3 in
+          let base : Place = record { component = formal.1; part = part } in
+          let held_first = ap (λ (x : ℕ). slice_index_or places x Null) hand.in_formal ∙ first_held places (Inside formal.0 base) formal.3 in
+          let inside = ends formal.0 base of hand formal.3 refers.2 in
+          subst (TargetFits (frame.Confines ∷ j) []) (sym held_first) (inl (formal.2, λ n has. refers.4 n (inner_lies of part hand.behind inside n has)))
+      ends_fits j (inr other) refers ends apart [] is =
+          beside_fits (frame.Confines ∷ j) (place_in named (slice_index_or places p.object.root Null) [] p) (slice_index_or places p.object.root Null)
+          (held_apart (frame.Confines ∷ j) places p.object.root (apart other))
+      ends_fits j (inl hand) refers ends apart (c ∷ cs) is = let none = sym hand.at_hand ∙ is in absurd (cc none)
+      ends_fits j (inr other) refers ends apart (c ∷ cs) is = let none = sym other.at_hand ∙ is in absurd (cc none)
+
+      target_fits :
+          (j : List (Frame Value)) → Assignable types j p → RefersToOperated types heap j procedure places
+          → ((o : Id) (base : Place) (of : ℕ) → ends_operation j ≡ true → IsAtHand p → slice_get places 0 ≡ Some (Inside o base)
+          → procedure_number (operations_of types of).finalize ≡ procedure → IsWithin types of p)
+          → ((u : Value) → ends_operation j ≡ true → IsBeside p → slice_get places p.object.root ≡ Some u → StandsApart u j) → (cs : List ℕ)
+          → p.object.selectors ≡ cs → TargetFits j cs (slice_index_or places p.object.root Null)
+      target_fits [] own refers ends apart cs is = any_fits [] (λ w left. tt) cs (slice_index_or places p.object.root Null)
+      target_fits (frame.Awaits v by done of part tasks ∷ j) own refers ends apart cs is =
+          begins_fits v by done of part tasks j (own parts) refers (λ other u held_there. apart u refl other held_there) cs is
+      target_fits (frame.Confines ∷ j) own refers ends apart cs is =
+          ends_fits j (own parts) refers (λ o base of hand. ends o base of refl hand) (λ other u held_there. apart u refl other held_there) cs is
+      target_fits (f ∷ j) own refers ends apart cs is = any_fits (f ∷ j) (λ w left. tt) cs (slice_index_or places p.object.root Null)
 
     target_leads :
         (q : RecordPathForm) (fs : StmtsForm) (k : List (Frame Value)) (pending : List Value) → Keeps types (frame.Does fs ∷ k) → (cs : List ℕ) (v : Value)
@@ -171,30 +207,31 @@ module _ (types : List TypeDefinition) (bodies : List BodyForm) (operations : Op
   -- Records are found.
   seeking_stands :
       (k : List (Frame Value)) (s : State) → s.mode ≡ Running → OperationsRefer types s.heap k s.activations → EndsInside types k s.activations
-      → Sought types (operands s) k → AllStand types (running_next named types bodies k s)
-  seeking_stands _ s on refers ends (target_next p q fs k parts own h) =
+      → DeclaresBeside types k s.activations → Sought types (operands s) k → AllStand types (running_next named types bodies k s)
+  seeking_stands _ s on refers ends apart (target_next p q fs k parts own h) =
       let v = held named s p.object.root in
       let cs = p.object.selectors in
       path_stands types (place_in named v cs p) p.record_type (frame.Refers q ∷ frame.Assigns p.record_type ∷ frame.Does fs ∷ k) (selected named v cs) (whole v) s on
       (target_leads types p parts q fs k (operands s) h cs v
-      (target_fits types p parts s.heap (behind_body k) (procedure_of s.activations) (places_of s.activations) own (operated_here types s.heap k s.activations refers)
-      (λ o base of. ends p (frame.Refers q ∷ frame.Assigns p.record_type ∷ frame.Does fs ∷ k) o base of refl) cs refl))
-  seeking_stands _ s on refers ends (source_next q t fs k own h) =
+      (target_fits types p parts s.heap (procedure_of s.activations) (places_of s.activations) (behind_body k) own (operated_here types s.heap k s.activations refers)
+      (λ o base of. ends p (frame.Refers q ∷ frame.Assigns p.record_type ∷ frame.Does fs ∷ k) o base of refl)
+      (λ u. apart p (frame.Refers q ∷ frame.Assigns p.record_type ∷ frame.Does fs ∷ k) u refl) cs refl))
+  seeking_stands _ s on refers ends apart (source_next q t fs k own h) =
       let v = held named s q.object.root in
       let cs = q.object.selectors in
       path_stands types (place_in named v cs q) q.record_type (frame.Assigns t ∷ frame.Does fs ∷ k) (selected named v cs) (whole v) s on
       (source_leads types t fs k (operands s) (place_in named v cs q) own h (selected named v cs) (whole v))
-  seeking_stands _ s on refers ends (follows cs place u behind h) =
+  seeking_stands _ s on refers ends apart (follows cs place u behind h) =
       path_stands types place u behind cs (newest named s) (popped s) on
       (any_leads cs (λ w. subst (λ (ops : List Value). Reaches types w ops place behind) (sym (operands_popped s)) (h w)))
     where
       any_leads : (cs : List ℕ) → ((w : Value) → Reaches types w (operands (popped s)) place behind) → Leads types cs (newest named s) (operands (popped s)) place behind
       any_leads [] any = any (newest named s)
       any_leads (c ∷ cs) any = any
-  seeking_stands _ s on refers ends (reaches place u behind h) =
+  seeking_stands _ s on refers ends apart (reaches place u behind h) =
       refers_stands types (newest named s) place (width_of types u) (look s.heap (newest named s)) behind (popped s) on
       (subst (λ (ops : List Value). Reaches types (newest named s) ops place behind) (sym (operands_popped s)) h)
-  seeking_stands _ s on refers ends (both_known t fs k own h) =
+  seeking_stands _ s on refers ends apart (both_known t fs k own h) =
       let target = newest named (popped s) in
       let source = newest named s in
       assigned_stands types t fs k target source (same target source) (popped (popped s)) refl
@@ -214,11 +251,12 @@ module _ (types : List TypeDefinition) (bodies : List BodyForm) (operations : Op
   kept_stands Returning s is h = all_stand (jump_next named Returning s.control s) (jump_keeps types bodies operations Returning s.control s h)
 
   pub next_stands :
-      (s : State) → OperationsRefer types s.heap s.control s.activations → (s.mode ≡ Running → EndsInside types s.control s.activations) → Stands types s
+      (s : State) → OperationsRefer types s.heap s.control s.activations → (s.mode ≡ Running → EndsInside types s.control s.activations)
+      → (s.mode ≡ Running → DeclaresBeside types s.control s.activations) → Stands types s
       → AllStand types (next types bodies s)
   unfolding next
-  next_stands s refers ends (keeps h) = kept_stands s.mode s refl h
-  next_stands s refers ends (seeks on h) =
-      subst (λ (m : Mode). AllStand types (mode_next named types bodies m s)) (sym on) (seeking_stands s.control s on refers (ends on) h)
-  next_stands s refers ends (fails e raising h) =
+  next_stands s refers ends apart (keeps h) = kept_stands s.mode s refl h
+  next_stands s refers ends apart (seeks on h) =
+      subst (λ (m : Mode). AllStand types (mode_next named types bodies m s)) (sym on) (seeking_stands s.control s on refers (ends on) (apart on) h)
+  next_stands s refers ends apart (fails e raising h) =
       subst (λ (m : Mode). AllStand types (mode_next named types bodies m s)) (sym raising) (failing_stands e s.control s raising h)

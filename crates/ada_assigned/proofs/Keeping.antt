@@ -1,7 +1,7 @@
--- What is left to do, where bodies of operations assign to records with controlled parts inside of their formal parameters alone (5.2, 7.6): the invariant of this
--- crate over the frames.
+-- What is left to do, where bodies of operations assign to records with controlled parts inside of their formal parameters alone, or in record objects that they
+-- declare (5.2, 7.6): the invariant of this crate over the frames.
 
-use Rattle.std.proofs.Common.{◌≡◌, ℕ, ◌+◌, ◌<◌, ◌≤◌, true, false, List, [], ◌∷◌, Some}
+use Rattle.std.proofs.Common.{◌≡◌, ℕ, ◌+◌, ◌<◌, ◌≤◌, true, false, List, [], ◌∷◌, Some, ◌⊎◌}
 use Rattle.std.specs.List.{slice_get, Contains}
 use Rattle.ada_program.specs.declared.program.TypeDefinition.{TypeDefinition}
 use Rattle.ada_program.specs.Controlled.{number_of, operations_of, procedure_number, shapes_of}
@@ -24,7 +24,9 @@ use Rattle.ada_meaning.specs.Named.{State, Next}
 use Rattle.ada_meaning.specs.Step.{has_parts, parts_for, treating, places_of, procedure_of, beginning as begun_by}
 use Rattle.ada_formals.specs.Formals.{finalized_before, left_to_finalize}
 use Rattle.ada_formals.proofs.Standing.{ends_operation}
+use Rattle.ada_finalized.specs.Law.{NoOperationRunsOn}
 use Rattle.ada_typed.proofs.Kept.{Each}
+use Rattle.ada_declared.specs.Declared.{StandsApart}
 
 -- What is left to do behind the running body (6.5).
 abbrev pub behind_body : List (Frame Value) → List (Frame Value)
@@ -121,14 +123,21 @@ pub record IsInner (types : List TypeDefinition) (of : ℕ) (target : RecordPath
       0 < parts_for (shapes_of types) (number_of types (Some target.record_type))
       → target.part + parts_for (shapes_of types) (number_of types (Some target.record_type)) ≤ parts_of (shapes_of types) of
 
+-- A record lies in another variable of an operation, a record object that it declares (3.3.1): no access value is followed on the way.
+pub record IsBeside (target : RecordPathForm) : Type 0 where
+  pub of_record : target.object.of_record ≡ true
+  pub at_hand : target.object.selectors ≡ []
+  pub beside : 0 < target.object.root
+
 module _ (types : List TypeDefinition) where
-  -- What a body assigns to that is called to begin a part of a type of this number (7.6): what has controlled parts is inside.
+  -- What a body assigns to that is called to begin a part of a type of this number (7.6): what has controlled parts is inside, or lies
+  -- in another variable.
   abbrev pub InBeginning : (of : ℕ) → RecordPathForm → Type 0
-  InBeginning of target = has_parts types target.record_type ≡ true → IsInner types of target
+  InBeginning of target = has_parts types target.record_type ≡ true → IsInner types of target ⊎ IsBeside target
 
   -- What a body of a Finalize assigns to (7.6.1).
   abbrev pub InEnding : RecordPathForm → Type 0
-  InEnding target = has_parts types target.record_type ≡ true → IsAtHand target
+  InEnding target = has_parts types target.record_type ≡ true → IsAtHand target ⊎ IsBeside target
 
   -- What a body assigns to, by what is left to do behind it.
   abbrev pub Assignable : (behind : List (Frame Value)) → RecordPathForm → Type 0
@@ -145,13 +154,18 @@ module _ (types : List TypeDefinition) where
       × ((n : ℕ) → Contains (numbers (parts_left (shapes_of types) left)) n → Contains (numbers (parts_left (shapes_of types) (left_to_finalize k))) n)
   LiesInOperated k w left = Unit {0}
 
-  -- Where a record is copied, an allocator goes on; or an assignment does (5.2): then the record is stored, and the parts to be adjusted lie so.
+  -- Or no operation of the object is awaited there.
+  abbrev pub LiesSafely : (behind : List (Frame Value)) → Value → List Task → Type 0
+  LiesSafely k w left = LiesInOperated k w left ⊎ NoOperationRunsOn w k
+
+  -- Where a record is copied, an allocator goes on; or an assignment does (5.2): then the record is stored, and the parts to be adjusted lie
+  -- so.
   abbrev pub CopiesFor : List (Frame Value) → Type 0
   CopiesFor (frame.Fills items ∷ k) = Unit {0}
   CopiesFor k =
       (o : Value) × (number : ℕ) × (to : ℕ) × (width : ℕ) × (left : List Task) × (fs : StmtsForm) × (later : List (Frame Value))
       × (k ≡ frame.StoresRecord o to width ∷ treating o (frame.begins (Adjustment number) []) left (frame.Does fs ∷ later))
-      × LiesInOperated (behind_body later) o left
+      × LiesSafely (behind_body later) o left
 
   -- A frame, and what is behind it: it assigns so. No assignment has found its records.
   abbrev pub FrameAssigns : Frame Value → (behind : List (Frame Value)) → Type 0
@@ -189,6 +203,12 @@ module _ (types : List TypeDefinition) where
       (target : RecordPathForm) (outer : List (Frame Value)) (o : Id) (base : Place) (of : ℕ) → k ≡ frame.Refers target ∷ outer
       → ends_operation (behind_body outer) ≡ true → IsAtHand target → slice_get (places_of acts) 0 ≡ Some (Inside o base)
       → procedure_number (operations_of types of).finalize ≡ procedure_of acts → IsWithin of target
+
+  -- Where a record in another variable of the body of an operation is to be found next, no operation that is awaited is of the object in which it lies.
+  abbrev pub DeclaresBeside : List (Frame Value) → List (Activation Value) → Type 0
+  DeclaresBeside k acts =
+      (target : RecordPathForm) (outer : List (Frame Value)) (v : Value) → k ≡ frame.Refers target ∷ outer → ends_operation (behind_body outer) ≡ true
+      → IsBeside target → slice_get (places_of acts) target.object.root ≡ Some v → StandsApart v (behind_body outer)
 
   -- A body that no operation waits for assigns to anything.
   pub assigns_any : (k : List (Frame Value)) → ends_operation k ≡ false → (target : RecordPathForm) → Assignable k target

@@ -18,7 +18,11 @@ pub mod Going
 pub mod Texts
 -- where the body of a Finalize assigns
 pub mod Finalizing
+-- where an operation assigns to a record object that it declares
+pub mod Declaring
 -- whole runs
 pub mod Runs
 -- a program that meets the premises
 pub mod Example
+-- one whose operation assigns to what it declares
+pub mod OwnExample

@@ -1,6 +1,6 @@
 -- So it is in each state of a run; and where an operation of an object runs alone, what its body assigns to has its values (7.6.1).
 
-use Rattle.std.proofs.Common.{◌≡◌, ℕ, ℤ, ◌≤◌, true, List, [], ◌∷◌, refl, sym, ap, ◌∙◌, subst, arith}
+use Rattle.std.proofs.Common.{◌≡◌, ℕ, ℤ, ◌≤◌, true, List, [], ◌∷◌, refl, sym, ap, ◌∙◌, subst, arith, inl, inr}
 use Rattle.std.specs.List.{Contains}
 use Rattle.ada_program.specs.declared.program.Program.{Program}
 use Rattle.ada_program.specs.declared.program.TypeDefinition.{TypeDefinition}
@@ -33,11 +33,12 @@ use Rattle.ada_finalized.proofs.Stacks.{Acts, Control, code, guard, finalization
 use Rattle.ada_finalized.proofs.Invariant.{Finding, Passing, seeks as seeks_record, follows, reaches, assigns, passes_assigns, passes_refers, passes_in, Stands as StandsOver, runs, finding, passing, ends_operation, beginning, ending, leaving, storing}
 use Rattle.ada_typed.proofs.Kept.{Each}
 use Rattle.ada_assigned.specs.Law.{RunsAlone, operations_assign_inside, AssignmentsInsideStand}
-use Rattle.ada_assigned.proofs.Keeping.{behind_body, Assignable, LiesInOperated, CopiesFor, Keeps, any_body}
+use Rattle.ada_assigned.proofs.Keeping.{behind_body, Assignable, LiesSafely, CopiesFor, Keeps, any_body}
 use Rattle.ada_assigned.proofs.Seeking.{Sought, target_next, source_next, follows as follows_path, reaches as reaches_record, both_known, Passes, by_assigns, by_refers, by_reference, Stands, keeps, seeks, fails}
 use Rattle.ada_assigned.proofs.Going.{next_stands}
 use Rattle.ada_assigned.proofs.Texts.{operations_assign}
 use Rattle.ada_assigned.proofs.Finalizing.{ends_inside}
+use Rattle.ada_assigned.proofs.Declaring.{declares_beside}
 
 -- It is so where a choice leads.
 led : (P : State → Type 0) (coming : Next) (choice : Choice) (e : Event) (after : State) → Each P coming → Leads coming choice e after → P after
@@ -70,7 +71,8 @@ module _ (program : Program) (well : IsWellFormed (program_form program)) (insid
   step_stands events s after choice e run h step =
       led (Stands program.types.items) (next program.types.items (body_forms program) s) choice e after
       (next_stands program.types.items (body_forms program) (operations_assign program well inside) s
-      (operations_refer_to_their_parts program well input events s run) (ends_inside program well input events s run) h) step
+      (operations_refer_to_their_parts program well input events s run) (ends_inside program well input events s run)
+      (declares_beside program well input events s run) h) step
 
   run_stands :
       (past events : List Event) (s last : State) → Run program (first_state program input) past s → Stands program.types.items s → Run program s events last
@@ -187,8 +189,8 @@ module _ (types : List TypeDefinition) (xs : Heap) (o : Value) (left : List Task
   abbrev In : Control → Type 0
   In k = IsInside (shapes_of types) o n k
 
-  calm_in : (f : Frame Value) (k : Control) → Calm f → RunsAlone o (f ∷ k) → LiesInOperated types (behind_body (f ∷ k)) o left
-      → (RunsAlone o k → LiesInOperated types (behind_body k) o left → In k) → In (f ∷ k)
+  calm_in : (f : Frame Value) (k : Control) → Calm f → RunsAlone o (f ∷ k) → LiesSafely types (behind_body (f ∷ k)) o left
+      → (RunsAlone o k → LiesSafely types (behind_body k) o left → In k) → In (f ∷ k)
   calm_in (frame.Treats v treatment tasks) k c alone lies on = absurd c
   calm_in (frame.Awaits v by done of part tasks) k c alone lies on = absurd c
   calm_in frame.Confines k c alone lies on = absurd c
@@ -209,14 +211,15 @@ module _ (types : List TypeDefinition) (xs : Heap) (o : Value) (left : List Task
   back_never acts _ actuals references (comes_back more others k h) alone = alone
   back_never acts _ actuals references (operates k h) alone = alone
 
-  guard_in : (acts : Acts) (k : Control) → Stack types xs guard acts k → RunsAlone o (frame.Returns [] [] ∷ k) → LiesInOperated types k o left → In k
-  guard_in acts _ (awaits v by done of part tasks k some p h) alone lies =
+  guard_in : (acts : Acts) (k : Control) → Stack types xs guard acts k → RunsAlone o (frame.Returns [] [] ∷ k) → LiesSafely types k o left → In k
+  guard_in acts _ (awaits v by done of part tasks k some p h) alone (inl lies) =
       ((λ same. lies.1 n has), none_inside (shapes_of types) o n k (alone lies.0))
-  guard_in acts _ (confines k some p h) alone lies =
+  guard_in acts _ (confines k some p h) alone (inl lies) =
       let there = subst (λ (parts : List Part). Contains (numbers parts) n) (same_left types xs acts k h) (lies.1 n has) in
       ((λ same. there), none_inside (shapes_of types) o n k (alone (sym (same_before k) ∙ lies.0)))
+  guard_in acts k h alone (inr none) = none_inside (shapes_of types) o n k none
 
-  code_in : (acts : Acts) (k : Control) → Stack types xs code acts k → RunsAlone o k → LiesInOperated types (behind_body k) o left → In k
+  code_in : (acts : Acts) (k : Control) → Stack types xs code acts k → RunsAlone o k → LiesSafely types (behind_body k) o left → In k
   code_in acts _ nothing alone lies = tt
   code_in acts _ (calm f k c h) alone lies = calm_in f k c alone lies (code_in acts k h)
   code_in acts _ (comes_back actuals references k h) alone lies = absurd (back_never (older acts) k actuals references h alone)
@@ -251,7 +254,7 @@ module _ (types : List TypeDefinition) (s : State) (object : Value) (number firs
       → k ≡ storing_then o m to width left later → Stack types s.heap code acts later → 1 ≤ count n (parts_left (shapes_of types) left)
       → frame.StoresRecord (name o) to width ∷ treating (name o) (begins (Adjustment m) []) left later
       ≡ frame.StoresRecord w to2 width2 ∷ treating w (begins (Adjustment m2) []) others (frame.Does fs ∷ after)
-      → LiesInOperated types (behind_body after) w others → IsInside (shapes_of types) object n k
+      → LiesSafely types (behind_body after) w others → IsInside (shapes_of types) object n k
   by_lists n o m to width m2 to2 width2 acts later w fs after [] others object_is stored h some same lies = absurd (omega (arith, some))
   by_lists n o m to width m2 to2 width2 acts later w fs after (task ∷ left) [] object_is stored h some same lies = absurd (cc same)
   by_lists n o m to width m2 to2 width2 acts later w fs after (task ∷ left) (other ∷ others) object_is stored h some same lies =
@@ -259,9 +262,9 @@ module _ (types : List TypeDefinition) (s : State) (object : Value) (number firs
       let left_is : other ∷ others ≡ task ∷ left = cc same in
       let later_is : frame.Does fs ∷ after ≡ later = cc same in
       let within = counted n (parts_left (shapes_of types) (task ∷ left)) some in
-      let lies_there = subst (λ (j : Control). LiesInOperated types (behind_body j) object (task ∷ left)) later_is
-      (subst (λ (v : Value). LiesInOperated types (behind_body after) v (task ∷ left)) name_is
-      (subst (LiesInOperated types (behind_body after) w) left_is lies)) in
+      let lies_there = subst (λ (j : Control). LiesSafely types (behind_body j) object (task ∷ left)) later_is
+      (subst (λ (v : Value). LiesSafely types (behind_body after) v (task ∷ left)) name_is
+      (subst (LiesSafely types (behind_body after) w) left_is lies)) in
       subst (IsInside (shapes_of types) object n) (sym stored)
       (code_in types s.heap object (task ∷ left) n within acts later h (subst (RunsAlone object) stored alone) lies_there)
 

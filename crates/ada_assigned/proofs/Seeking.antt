@@ -1,5 +1,5 @@
--- While the records of an assignment are found, its target lies in the part that the operation is called for, if an operation waits for the running body; and what is
--- left to do behind the assignment assigns so.
+-- While the records of an assignment are found, its target lies in the part that the operation is called for, if an operation waits for the running body, or in an
+-- object of which none does; and what is left to do behind the assignment assigns so.
 
 use Rattle.std.proofs.Common.{◌≡◌, ℕ, Bool, true, false, List, [], ◌∷◌, Option, Some, None, refl, sym, subst}
 use Rattle.std.specs.List.{slice_get}
@@ -22,7 +22,7 @@ use Rattle.ada_meaning.specs.State.{Activation}
 use Rattle.ada_meaning.specs.Step.{has_parts, record_tasks, first_or, older, operands, at, computed, popped, reading, component_next, follow_next, path_next, record_in, referred_next, refers_next, assigns_next}
 use Rattle.ada_meaning.specs.Named.{State, Next, named, look, refer, same}
 use Rattle.ada_typed.proofs.Kept.{Each}
-use Rattle.ada_assigned.proofs.Keeping.{behind_body, Assignable, LiesInOperated, Keeps}
+use Rattle.ada_assigned.proofs.Keeping.{behind_body, Assignable, LiesSafely, Keeps}
 use Rattle.ada_assigned.proofs.Evaluations.{treating_keeps}
 
 -- Operands that come and go.
@@ -49,12 +49,12 @@ first_computed P v s none h = go s.activations
     go (a ∷ suspended) = h
 
 module _ (types : List TypeDefinition) where
-  -- A reference to a record of this type lies in the part that is operated on: all that is to be adjusted there does.
+  -- A reference to a record of this type lies in the part that is operated on, or in another object: all that is to be adjusted there does.
   abbrev pub Operated : (behind : List (Frame Value)) → (t : ℕ) → Value → Type 0
   Operated k t Null = Unit {0}
   Operated k t (Names o) = Unit {0}
   Operated k t (Scalar v) = Unit {0}
-  Operated k t (Inside o place) = LiesInOperated types k (Names o) (record_tasks types t PartsFirst place.part)
+  Operated k t (Inside o place) = LiesSafely types k (Names o) (record_tasks types t PartsFirst place.part)
 
   -- What is left to do behind the frame that takes a value to a reference: the target is found so, or it was.
   pub data Reaches (v : Value) (pending : List Value) (place : Place) : List (Frame Value) → Type 0 where

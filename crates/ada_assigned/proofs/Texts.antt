@@ -1,9 +1,9 @@
--- What the text of operations says (7.6): where one assigns to a record with controlled parts, that lies inside of the formal parameter.
+-- What the text of operations says (7.6): where one assigns to a record with controlled parts, that lies inside of the formal parameter, or in another variable.
 
-use Rattle.std.proofs.Common.{◌≡◌, ℕ, zero, suc, ◌+◌, ◌<◌, ◌≤◌, ◌==◌, Bool, true, false, ◌&&◌, ◌||◌, not, if◌then◌else◌, List, [], ◌∷◌, length, map, take, Option, Some, None, is_some, arith, refl, sym, ap, ◌∙◌, subst, inl, inr}
+use Rattle.std.proofs.Common.{◌≡◌, ℕ, zero, suc, ◌+◌, ◌<◌, ◌≤◌, ◌==◌, Bool, true, false, ◌&&◌, ◌||◌, not, if◌then◌else◌, List, [], ◌∷◌, length, map, take, Option, Some, None, is_some, arith, refl, sym, ap, ◌∙◌, subst, ◌⊎◌, inl, inr}
 use Rattle.std.specs.Prelude.{find, nat_lt}
 use Rattle.std.specs.List.{slice_get, list_all}
-use Rattle.std.proofs.lemmas.Bool.{eqb-true, ltb-false}
+use Rattle.std.proofs.lemmas.Bool.{ltb-false}
 use Rattle.std.proofs.lemmas.Bool.Decides.{eqb_tells}
 use Rattle.ada_program.specs.declared.program.Finalization.{Finalization}
 use Rattle.ada_program.specs.declared.program.Operations.{Operations}
@@ -28,13 +28,13 @@ use Rattle.ada_typed.proofs.Operators.{and_left, and_right}
 use Rattle.ada_typed.proofs.Overridings.{OperationFor, beginning_for}
 use Rattle.ada_typed.proofs.Parts.{record_counted}
 use Rattle.ada_assigned.specs.Law.{is_empty, lies_at_hand, assigns_inside, all_assign_inside, branches_assign_inside, handlers_assign_inside, body_assigns_inside, procedure_assigns_inside, operation_assigns_inside, type_assigns_inside, operations_assign_inside}
-use Rattle.ada_assigned.proofs.Keeping.{StmtAssigns, StmtsAssign, BranchesAssign, HandlersAssign, BodyAssigns, IsAtHand, IsInner, InBeginning, InEnding, OperationsAssign}
+use Rattle.ada_assigned.proofs.Keeping.{StmtAssigns, StmtsAssign, BranchesAssign, HandlersAssign, BodyAssigns, IsAtHand, IsBeside, IsInner, InBeginning, InEnding, OperationsAssign}
 
 -- Statements that assign only where they may, and that fit.
-module _ (P : RecordPathForm → Type 0) (may : RecordPathForm → Bool) (types : List TypeForm) (variables : List VariableForm) (texts exceptions : List (List ℕ)) (callable : List Profile)
-    (each : (target : RecordPathForm) → (not (is_some (finalization_of types target.record_type)) || may target) ≡ true → is_record_path types variables target ≡ true → P target) where
+module _ (P : RecordPathForm → Type 0) (types : List TypeForm) (variables : List VariableForm) (texts exceptions : List (List ℕ)) (callable : List Profile)
+    (each : (target : RecordPathForm) → (not (is_some (finalization_of types target.record_type)) || lies_at_hand target) ≡ true → is_record_path types variables target ≡ true → P target) where
   mutual
-    stmt_assigns : (inside : Bool) (f : StmtForm) → statement_fits types variables texts exceptions callable inside f ≡ true → assigns_inside may types f ≡ true
+    stmt_assigns : (inside : Bool) (f : StmtForm) → statement_fits types variables texts exceptions callable inside f ≡ true → assigns_inside types f ≡ true
         → StmtAssigns P f
     stmt_assigns inside skips fits own = tt
     stmt_assigns inside (assigns target right) fits own = tt
@@ -61,64 +61,64 @@ module _ (P : RecordPathForm → Type 0) (may : RecordPathForm → Bool) (types 
         let done = stmts_fit types variables texts exceptions callable inside fs in
         let handled = handlers_fit types variables texts exceptions callable inside hs in
         let both = and_left (declared && done) handled fits in (
-          stmts_assign inside fs (and_right declared done both) (and_left (all_assign_inside may types fs) (handlers_assign_inside may types hs) own),
-          handlers_assign inside hs (and_right (declared && done) handled fits) (and_right (all_assign_inside may types fs) (handlers_assign_inside may types hs) own),
+          stmts_assign inside fs (and_right declared done both) (and_left (all_assign_inside types fs) (handlers_assign_inside types hs) own),
+          handlers_assign inside hs (and_right (declared && done) handled fits) (and_right (all_assign_inside types fs) (handlers_assign_inside types hs) own),
         )
 
-    stmts_assign : (inside : Bool) (fs : StmtsForm) → stmts_fit types variables texts exceptions callable inside fs ≡ true → all_assign_inside may types fs ≡ true
+    stmts_assign : (inside : Bool) (fs : StmtsForm) → stmts_fit types variables texts exceptions callable inside fs ≡ true → all_assign_inside types fs ≡ true
         → StmtsAssign P fs
     stmts_assign inside no_stmts fits own = tt
     stmts_assign inside (a_stmt f fs) fits own =
         let here = statement_fits types variables texts exceptions callable inside f in
         let later = stmts_fit types variables texts exceptions callable inside fs in
-        let one = assigns_inside may types f in
-        let more = all_assign_inside may types fs in
+        let one = assigns_inside types f in
+        let more = all_assign_inside types fs in
         (stmt_assigns inside f (and_left here later fits) (and_left one more own), stmts_assign inside fs (and_right here later fits) (and_right one more own))
 
     branches_assign : (inside : Bool) (branches : BranchesForm) → branches_fit types variables texts exceptions callable inside branches ≡ true
-        → branches_assign_inside may types branches ≡ true → BranchesAssign P branches
+        → branches_assign_inside types branches ≡ true → BranchesAssign P branches
     branches_assign inside (otherwise fs) fits own = stmts_assign inside fs fits own
     branches_assign inside (a_branch e fs branches) fits own =
         let condition = has_type types variables Boolean e in
         let here = stmts_fit types variables texts exceptions callable inside fs in
         let later = branches_fit types variables texts exceptions callable inside branches in
         let first = and_left (condition && here) later fits in
-        let one = all_assign_inside may types fs in
-        let more = branches_assign_inside may types branches in (
+        let one = all_assign_inside types fs in
+        let more = branches_assign_inside types branches in (
           stmts_assign inside fs (and_right condition here first) (and_left one more own),
           branches_assign inside branches (and_right (condition && here) later fits) (and_right one more own),
         )
 
     handlers_assign : (inside : Bool) (hs : HandlersForm) → handlers_fit types variables texts exceptions callable inside hs ≡ true
-        → handlers_assign_inside may types hs ≡ true → HandlersAssign P hs
+        → handlers_assign_inside types hs ≡ true → HandlersAssign P hs
     handlers_assign inside no_handlers fits own = tt
     handlers_assign inside (a_handler choices fs hs) fits own =
         let front = list_all (choice_fits exceptions) choices && has_statement fs in
         let here = stmts_fit types variables texts exceptions callable inside fs in
         let later = handlers_fit types variables texts exceptions callable inside hs in
         let first = and_left (front && here) later fits in
-        let one = all_assign_inside may types fs in
-        let more = handlers_assign_inside may types hs in (
+        let one = all_assign_inside types fs in
+        let more = handlers_assign_inside types hs in (
           stmts_assign inside fs (and_right front here first) (and_left one more own),
           handlers_assign inside hs (and_right (front && here) later fits) (and_right one more own),
         )
 
 -- A body that fits.
 body_assigns :
-    (P : RecordPathForm → Type 0) (may : RecordPathForm → Bool) (types : List TypeForm) (texts exceptions : List (List ℕ)) (callable : List Profile) (b : BodyForm)
-    → ((target : RecordPathForm) → (not (is_some (finalization_of types target.record_type)) || may target) ≡ true → is_record_path types b.variables target ≡ true → P target)
-    → body_fits types texts exceptions callable b ≡ true → body_assigns_inside may types b ≡ true → BodyAssigns P b
-body_assigns P may types texts exceptions callable b each fits own =
+    (P : RecordPathForm → Type 0) (types : List TypeForm) (texts exceptions : List (List ℕ)) (callable : List Profile) (b : BodyForm)
+    → ((target : RecordPathForm) → (not (is_some (finalization_of types target.record_type)) || lies_at_hand target) ≡ true → is_record_path types b.variables target ≡ true → P target)
+    → body_fits types texts exceptions callable b ≡ true → body_assigns_inside types b ≡ true → BodyAssigns P b
+body_assigns P types texts exceptions callable b each fits own =
     let variables = list_all (variable_fits types) b.variables in
     let creates = creates_from (length b.variables) (length b.formals) (created_in b) in
     let declared = declarations_fit types b.variables b.declarations in
     let done = stmts_fit types b.variables texts exceptions callable false b.statements in
     let handled = handlers_fit types b.variables texts exceptions callable false b.handlers in
     let four = and_left (variables && creates && declared && done) handled fits in
-    let one = all_assign_inside may types b.statements in
-    let more = handlers_assign_inside may types b.handlers in (
-      stmts_assign P may types b.variables texts exceptions callable each false b.statements (and_right (variables && creates && declared) done four) (and_left one more own),
-      handlers_assign P may types b.variables texts exceptions callable each false b.handlers
+    let one = all_assign_inside types b.statements in
+    let more = handlers_assign_inside types b.handlers in (
+      stmts_assign P types b.variables texts exceptions callable each false b.statements (and_right (variables && creates && declared) done four) (and_left one more own),
+      handlers_assign P types b.variables texts exceptions callable each false b.handlers
           (and_right (variables && creates && declared && done) handled fits) (and_right one more own),
     )
 
@@ -156,25 +156,32 @@ not_zero (suc n) is = omega arith
 
 -- The path of a record that lies at hand.
 module _ (target : RecordPathForm) (hand : lies_at_hand target ≡ true) where
+  abbrev straight : Bool
+  straight = target.object.of_record && is_empty target.object.selectors
+
+  abbrev inside : Bool
+  inside = not (target.object.root == 0 && target.part == 0)
+
   of_record : target.object.of_record ≡ true
-  of_record = and_left target.object.of_record (is_empty target.object.selectors)
-      (and_left (target.object.of_record && is_empty target.object.selectors) (target.object.root == 0)
-      (and_left (target.object.of_record && is_empty target.object.selectors && target.object.root == 0) (not (target.part == 0)) hand))
+  of_record = and_left target.object.of_record (is_empty target.object.selectors) (and_left straight inside hand)
 
-  path_at_hand : IsAtHand target
-  path_at_hand = record {
-    in_formal = eqb-true target.object.root 0
-        (and_right (target.object.of_record && is_empty target.object.selectors) (target.object.root == 0)
-        (and_left (target.object.of_record && is_empty target.object.selectors && target.object.root == 0) (not (target.part == 0)) hand));
-    at_hand = no_selectors target.object.selectors
-        (and_right target.object.of_record (is_empty target.object.selectors)
-        (and_left (target.object.of_record && is_empty target.object.selectors) (target.object.root == 0)
-        (and_left (target.object.of_record && is_empty target.object.selectors && target.object.root == 0) (not (target.part == 0)) hand)));
-    behind = not_zero target.part
-        (and_right (target.object.of_record && is_empty target.object.selectors && target.object.root == 0) (not (target.part == 0)) hand);
-  }
+  none_selected : target.object.selectors ≡ []
+  none_selected = no_selectors target.object.selectors (and_right target.object.of_record (is_empty target.object.selectors) (and_left straight inside hand))
 
--- A Finalize assigns in its formal parameter.
+  -- It lies in the formal parameter, or in another variable.
+  path_at_hand : IsAtHand target ⊎ IsBeside target
+  path_at_hand = by (split target.object.root target.part (and_right straight inside hand))
+    where
+      split : (root part : ℕ) → not (root == 0 && part == 0) ≡ true → ((root ≡ 0) × (0 < part)) ⊎ (0 < root)
+      split zero zero is = absurd (cc)
+      split zero (suc part) is = inl (refl, omega arith)
+      split (suc root) part is = inr (omega arith)
+
+      by : ((target.object.root ≡ 0) × (0 < target.part)) ⊎ (0 < target.object.root) → IsAtHand target ⊎ IsBeside target
+      by (inl formal) = inl (record { in_formal = formal.0; at_hand = none_selected; behind = formal.1 })
+      by (inr other) = inr (record { of_record = of_record; at_hand = none_selected; beside = other })
+
+-- So a Finalize assigns.
 ends_at_hand :
     (types : List TypeDefinition) (target : RecordPathForm)
     → (not (is_some (finalization_of (map type_form types) target.record_type)) || lies_at_hand target) ≡ true → InEnding types target
@@ -217,13 +224,12 @@ module _ (program : Program) (well : IsWellFormed (program_form program)) where
       ∙ known_count operation.record_type
       ∙ ap (parts_for (shapes_of types)) (same_number types operation.record_type ∙ operation.numbered)
 
-  -- The path of the target, where it lies at hand.
+  -- The path of the target, where it lies in the formal parameter.
   module _ (of procedure : ℕ) (operation : OperationFor (program_form program) of procedure) (target : RecordPathForm)
-      (hand : lies_at_hand target ≡ true) (fits : is_record_path forms operation.body.variables target ≡ true) where
+      (hand : lies_at_hand target ≡ true) (path : IsAtHand target) (fits : is_record_path forms operation.body.variables target ≡ true) where
     kind_is : path_kind forms operation.body.variables target.object ≡ Some (variable.Record operation.object)
     kind_is =
         let first = formal_kind of procedure operation in
-        let path = path_at_hand target hand in
         ap (λ (cs : List ℕ). selectors_kind forms (root_kind target.object.of_record (variable_kind operation.body.variables target.object.root)) cs) path.at_hand
         ∙ ap (λ (b : Bool). root_kind b (variable_kind operation.body.variables target.object.root)) (of_record target hand)
         ∙ ap (λ (x : ℕ). root_kind true (variable_kind operation.body.variables x)) path.in_formal
@@ -236,9 +242,9 @@ module _ (program : Program) (well : IsWellFormed (program_form program)) where
 
     is_inner : IsInner types of target
     is_inner = record {
-      in_formal = (path_at_hand target hand).in_formal;
-      at_hand = (path_at_hand target hand).at_hand;
-      behind = (path_at_hand target hand).behind;
+      in_formal = path.in_formal;
+      at_hand = path.at_hand;
+      behind = path.behind;
       within = λ some.
           let object = object_named forms (access_of (path_kind forms operation.body.variables target.object)) in
           let count = part_count forms target.record_type in
@@ -256,34 +262,39 @@ module _ (program : Program) (well : IsWellFormed (program_form program)) where
       (of procedure : ℕ) (operation : OperationFor (program_form program) of procedure) (target : RecordPathForm)
       → (not (is_some (finalization_of forms target.record_type)) || lies_at_hand target) ≡ true
       → is_record_path forms operation.body.variables target ≡ true → InBeginning types of target
-  begins_inside of procedure operation target is fits parts =
-      is_inner of procedure operation target
-      (may_be (is_some (finalization_of forms target.record_type)) (lies_at_hand target) is (said_parts types target.record_type parts)) fits
+  begins_inside of procedure operation target is fits parts = by (path_at_hand target hand)
+    where
+      hand : lies_at_hand target ≡ true
+      hand = may_be (is_some (finalization_of forms target.record_type)) (lies_at_hand target) is (said_parts types target.record_type parts)
+
+      by : IsAtHand target ⊎ IsBeside target → IsInner types of target ⊎ IsBeside target
+      by (inl path) = inl (is_inner of procedure operation target hand path fits)
+      by (inr other) = inr other
 
   -- The operations of a type that was found by its number.
-  abbrev Assigns : (may : RecordPathForm → Bool) → Option ProcedureNo → Type 0
-  Assigns may o = (procedure : ℕ) → procedure_number o ≡ Some procedure → procedure_assigns_inside may forms (slice_get (body_forms program) procedure) ≡ true
+  abbrev Assigns : Option ProcedureNo → Type 0
+  Assigns o = (procedure : ℕ) → procedure_number o ≡ Some procedure → procedure_assigns_inside forms (slice_get (body_forms program) procedure) ≡ true
 
   abbrev AllAssign : Operations → Type 0
-  AllAssign operations = Assigns lies_at_hand operations.initialize × Assigns lies_at_hand operations.adjust × Assigns lies_at_hand operations.finalize
+  AllAssign operations = Assigns operations.initialize × Assigns operations.adjust × Assigns operations.finalize
 
-  one_assigns : (may : RecordPathForm → Bool) (o : Option ProcedureNo) → operation_assigns_inside may (program_form program) o ≡ true → Assigns may o
-  one_assigns may None is procedure said = absurd (cc)
-  one_assigns may (Some number) is procedure said =
+  one_assigns : (o : Option ProcedureNo) → operation_assigns_inside (program_form program) o ≡ true → Assigns o
+  one_assigns None is procedure said = absurd (cc)
+  one_assigns (Some number) is procedure said =
       let same : number.0 ≡ procedure = cc in
-      subst (λ (n : ℕ). procedure_assigns_inside may forms (slice_get (body_forms program) n) ≡ true) same is
+      subst (λ (n : ℕ). procedure_assigns_inside forms (slice_get (body_forms program) n) ≡ true) same is
 
   finalization_assigns : (o : Option Finalization) → type_assigns_inside (program_form program) o ≡ true → AllAssign (operations_in o)
   finalization_assigns None is = (λ procedure said. absurd (cc), λ procedure said. absurd (cc), λ procedure said. absurd (cc))
   finalization_assigns (Some f) is =
       let p = program_form program in
-      let one = operation_assigns_inside lies_at_hand p f.operations.initialize in
-      let two = operation_assigns_inside lies_at_hand p f.operations.adjust in
-      let three = operation_assigns_inside lies_at_hand p f.operations.finalize in
+      let one = operation_assigns_inside p f.operations.initialize in
+      let two = operation_assigns_inside p f.operations.adjust in
+      let three = operation_assigns_inside p f.operations.finalize in
       let both = and_left (one && two) three is in (
-        one_assigns lies_at_hand f.operations.initialize (and_left one two both),
-        one_assigns lies_at_hand f.operations.adjust (and_right one two both),
-        one_assigns lies_at_hand f.operations.finalize (and_right (one && two) three is),
+        one_assigns f.operations.initialize (and_left one two both),
+        one_assigns f.operations.adjust (and_right one two both),
+        one_assigns f.operations.finalize (and_right (one && two) three is),
       )
 
   type_assigns : (d : TypeDefinition) → type_assigns_inside (program_form program) (finalization_in (Some (type_form d))) ≡ true → AllAssign (operations_by (Some d))
@@ -312,7 +323,7 @@ module _ (program : Program) (well : IsWellFormed (program_form program)) where
     known_assign of = types_assign of types assigns
 
     begins_by : (by : Birth) (of procedure : ℕ) → begun_by by (operations_of types of) ≡ Some procedure
-        → procedure_assigns_inside lies_at_hand forms (slice_get (body_forms program) procedure) ≡ true
+        → procedure_assigns_inside forms (slice_get (body_forms program) procedure) ≡ true
     begins_by Creation of procedure is = (known_assign of).0 procedure is
     begins_by Copy of procedure is = (known_assign of).1 procedure is
     begins_by (Adjustment number) of procedure is = (known_assign of).1 procedure is
@@ -323,7 +334,7 @@ module _ (program : Program) (well : IsWellFormed (program_form program)) where
         body_at forms (program_form program).texts (program_form program).exceptions [] (body_forms program) procedure b well.bodies_fit is
 
     begins_assign : (of procedure : ℕ) → OperationFor (program_form program) of procedure
-        → procedure_assigns_inside lies_at_hand forms (slice_get (body_forms program) procedure) ≡ true → (b : BodyForm) → slice_get (body_forms program) procedure ≡ Some b
+        → procedure_assigns_inside forms (slice_get (body_forms program) procedure) ≡ true → (b : BodyForm) → slice_get (body_forms program) procedure ≡ Some b
         → BodyAssigns (InBeginning types of) b
     begins_assign of procedure operation own b is =
         let p = program_form program in
@@ -331,17 +342,17 @@ module _ (program : Program) (well : IsWellFormed (program_form program)) where
         let found : Some operation.body ≡ Some b = sym there ∙ is in
         let same : operation.body ≡ b = cc found in
         subst (BodyAssigns (InBeginning types of)) same
-        (body_assigns (InBeginning types of) lies_at_hand forms p.texts p.exceptions (map profile_of (take procedure p.bodies)) operation.body
+        (body_assigns (InBeginning types of) forms p.texts p.exceptions (map profile_of (take procedure p.bodies)) operation.body
         (begins_inside of procedure operation) (body_fits_at procedure operation.body there)
-        (ap (procedure_assigns_inside lies_at_hand forms) (sym there) ∙ own))
+        (ap (procedure_assigns_inside forms) (sym there) ∙ own))
 
-    ends_assign : (procedure : ℕ) → procedure_assigns_inside lies_at_hand forms (slice_get (body_forms program) procedure) ≡ true → (b : BodyForm)
+    ends_assign : (procedure : ℕ) → procedure_assigns_inside forms (slice_get (body_forms program) procedure) ≡ true → (b : BodyForm)
         → slice_get (body_forms program) procedure ≡ Some b → BodyAssigns (InEnding types) b
     ends_assign procedure own b is =
         let p = program_form program in
-        body_assigns (InEnding types) lies_at_hand forms p.texts p.exceptions (map profile_of (take procedure p.bodies)) b
+        body_assigns (InEnding types) forms p.texts p.exceptions (map profile_of (take procedure p.bodies)) b
         (λ target may path. ends_at_hand types target may) (body_fits_at procedure b is)
-        (ap (procedure_assigns_inside lies_at_hand forms) (sym is) ∙ own)
+        (ap (procedure_assigns_inside forms) (sym is) ∙ own)
 
     pub operations_assign : OperationsAssign types (body_forms program)
     operations_assign = record {

@@ -1,9 +1,10 @@
--- A program whose Initialize assigns to a component of its formal parameter, and what a run of it shows.
+-- A program whose Initialize assigns to a component of its formal parameter, and one whose Initialize assigns to a record object that it declares; and what runs of
+-- them show.
 
 use Rattle.std.specs.Prelude.{◌≡◌, ℕ, true, List, [], ◌∷◌}
 use Rattle.ada_program.specs.declared.program.Program.{Program}
 use Rattle.ada_program.specs.Controlled.{shapes_of, operations_of}
-use Rattle.ada_program.specs.Form.{stmt_forms}
+use Rattle.ada_program.specs.Form.{item_of_record, assigns_record, no_stmts, a_stmt, stmt_forms}
 use Rattle.ada_program.specs.ProgramForm.{BodyForm, program_form, body_forms}
 use Rattle.ada_program.specs.WellFormed.{IsWellFormed}
 use Rattle.ada_parts.specs.Task.{Task}
@@ -12,8 +13,8 @@ use Rattle.ada_meaning.specs.declared.state.Value.{Value}
 use Rattle.ada_meaning.specs.Frame.{Frame, ends, Treats, Copies}
 use Rattle.ada_meaning.specs.Named.{State}
 use Rattle.ada_order.specs.Example.{InSomeRun}
-use Rattle.ada_finalized.specs.Example.{controlled_shapes, object_x, object_stmts, outer_operations}
-use Rattle.ada_finalized.specs.Nested.{assigns_component}
+use Rattle.ada_finalized.specs.Example.{controlled_shapes, object_x, object_y, object_stmts, outer_operations}
+use Rattle.ada_finalized.specs.Nested.{record_at, assigns_component}
 use Rattle.ada_assigned.specs.Law.{RunsAlone, operations_assign_inside}
 
 -- procedure Initialize (X : in out Outer) is Y : Inner; begin X.C := Y; end;
@@ -33,3 +34,22 @@ InitializeAssignsInside =
     (program : Program) × (shapes_of program.types.items ≡ controlled_shapes) × (operations_of program.types.items 1 ≡ outer_operations)
     × (body_forms program ≡ assigning_initialize ∷ []) × (stmt_forms program ≡ object_stmts) × IsWellFormed (program_form program)
     × (operations_assign_inside (program_form program) ≡ true) × InSomeRun program (λ events last. AssignsToComponent last)
+
+-- procedure Initialize (X : in out Outer) is Y : Inner; begin Y := X.C; end;
+abbrev pub copying_initialize : BodyForm
+copying_initialize = record assigning_initialize {
+  statements = a_stmt (assigns_record (record_at 1 0 0) (item_of_record (record_at 0 1 0) ∷ [])) no_stmts;
+}
+
+-- The object that Y names is finalized next, by an assignment, while the Initialize of X runs.
+abbrev pub AssignsToDeclared : State → Type 0
+AssignsToDeclared s =
+    (number : ℕ) × (tasks : List Task) × (first : ℕ) × (t : ℕ) × (k : List (Frame Value))
+    × (s.control ≡ Treats object_y (ends (Assigning number)) tasks ∷ Copies first t ∷ k) × RunsAlone object_y k
+
+-- A program of the same types, in which Outer overrides Initialize so, meets the premises of the law, too: in a run of it Initialize assigns to Y.
+abbrev pub InitializeAssignsBeside : Type 0
+InitializeAssignsBeside =
+    (program : Program) × (shapes_of program.types.items ≡ controlled_shapes) × (operations_of program.types.items 1 ≡ outer_operations)
+    × (body_forms program ≡ copying_initialize ∷ []) × (stmt_forms program ≡ object_stmts) × IsWellFormed (program_form program)
+    × (operations_assign_inside (program_form program) ≡ true) × InSomeRun program (λ events last. AssignsToDeclared last)

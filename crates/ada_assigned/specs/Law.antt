@@ -1,4 +1,5 @@
--- Records with controlled parts that operations assign to as wholes (5.2, 7.6): an Initialize, an Adjust and a Finalize do so inside of their formal parameters.
+-- Records with controlled parts that operations assign to as wholes (5.2, 7.6): an Initialize, an Adjust and a Finalize do so inside of their formal parameters, and
+-- to record objects that they declare.
 
 use Rattle.std.specs.Prelude.{◌≡◌, ℕ, ℤ, Bool, true, false, not, ◌&&◌, ◌||◌, ◌==◌, List, [], ◌∷◌, Option, Some, None, is_some}
 use Rattle.std.specs.List.{list_all, slice_get}
@@ -24,17 +25,18 @@ abbrev pub is_empty : (selectors : List ℕ) → Bool
 is_empty [] = true
 is_empty (c ∷ cs) = false
 
--- A record lies in the formal parameter of an operation, which is the first variable, and is not that as a whole. No access value is followed on the way (4.1).
+-- A record lies in a record variable of an operation, and no access value is followed on the way (4.1). If that is the formal parameter, which is the first
+-- variable, it is not that as a whole.
 abbrev pub lies_at_hand : RecordPathForm → Bool
-lies_at_hand target = target.object.of_record && is_empty target.object.selectors && target.object.root == 0 && not (target.part == 0)
+lies_at_hand target = target.object.of_record && is_empty target.object.selectors && not (target.object.root == 0 && target.part == 0)
 
-module _ (may : RecordPathForm → Bool) (types : List TypeForm) where
+module _ (types : List TypeForm) where
   abbrev mutual
-    -- A statement assigns to records with controlled parts as wholes only where it may (5.2).
+    -- A statement assigns to records with controlled parts as wholes only where they lie at hand (5.2).
     pub assigns_inside : StmtForm → Bool
     assigns_inside skips = true
     assigns_inside (assigns target right) = true
-    assigns_inside (assigns_record target items) = not (is_some (finalization_of types target.record_type)) || may target
+    assigns_inside (assigns_record target items) = not (is_some (finalization_of types target.record_type)) || lies_at_hand target
     assigns_inside (frees access path) = true
     assigns_inside (gets target) = true
     assigns_inside (writes e) = true
@@ -73,16 +75,15 @@ module _ (may : RecordPathForm → Bool) (types : List TypeForm) where
   procedure_assigns_inside (Some b) = body_assigns_inside b
 
 -- So it is with what overrides an operation, if one is overridden (7.6).
-abbrev pub operation_assigns_inside : (may : RecordPathForm → Bool) → ProgramForm → Option ProcedureNo → Bool
-operation_assigns_inside may p None = true
-operation_assigns_inside may p (Some procedure) = procedure_assigns_inside may p.types (slice_get p.bodies procedure.0)
+abbrev pub operation_assigns_inside : ProgramForm → Option ProcedureNo → Bool
+operation_assigns_inside p None = true
+operation_assigns_inside p (Some procedure) = procedure_assigns_inside p.types (slice_get p.bodies procedure.0)
 
--- So it is with each operation of a type: an Initialize, an Adjust and a Finalize assign inside of their formal parameters.
+-- So it is with each operation of a type: an Initialize, an Adjust and a Finalize assign so.
 abbrev pub type_assigns_inside : ProgramForm → Option Finalization → Bool
 type_assigns_inside p None = true
 type_assigns_inside p (Some f) =
-    operation_assigns_inside lies_at_hand p f.operations.initialize && operation_assigns_inside lies_at_hand p f.operations.adjust
-    && operation_assigns_inside lies_at_hand p f.operations.finalize
+    operation_assigns_inside p f.operations.initialize && operation_assigns_inside p f.operations.adjust && operation_assigns_inside p f.operations.finalize
 
 -- So it is with each operation of each type of a program.
 abbrev pub operations_assign_inside : ProgramForm → Bool
@@ -97,7 +98,7 @@ RunsAlone v (frame.Returns actuals references ∷ k) = ⊥
 RunsAlone v (f ∷ k) = RunsAlone v k
 
 -- In every run of a well-formed program whose operations assign so: while the body of an operation assigns to a record, and no other operation of the object of
--- that operation runs, if the record lies in that object, no value is finalized there that does not exist (7.6.1).
+-- that operation runs, if the record lies in that object, no value is finalized there that does not exist (7.6.1). Nor is one in any other object.
 abbrev pub AssignmentsInsideStand : Type 0
 AssignmentsInsideStand =
     (program : Program) → IsWellFormed (program_form program) → operations_assign_inside (program_form program) ≡ true

@@ -1,17 +1,18 @@
 //! The laws of assignments in operations. Each is a function that does nothing, and whose contract is the theorem.
 
 ghost use Rattle.ada_assigned.specs.Law.{AssignmentsInsideStand};
-ghost use Rattle.ada_assigned.specs.Example.{InitializeAssignsInside};
+ghost use Rattle.ada_assigned.specs.Example.{InitializeAssignsBeside, InitializeAssignsInside};
 
 /// Where the body of an Initialize, an Adjust or a Finalize assigns to a record with controlled parts as a whole (5.2), which lies in its
-/// formal parameter, each value that is finalized there exists (7.6.1): so it is as long as no other operation of that object
-/// runs.
+/// formal parameter, or in a record object that the body declares, each value that is finalized there exists (7.6.1): so it is
+/// as long as no other operation of that object runs.
 pub fn assignments_inside_stand()
     ensures { AssignmentsInsideStand }
 {}
 
-/// A well-formed program meets the premises: its Initialize assigns to a component of its formal parameter that is controlled
-/// itself.
+/// Well-formed programs meet the premises: an Initialize assigns to a component of its formal parameter that is controlled
+/// itself, and another one to a record object that it declares.
 pub fn premises_are_met()
-    ensures { InitializeAssignsInside }
+    ensures inside { InitializeAssignsInside }
+    ensures beside { InitializeAssignsBeside }
 {}

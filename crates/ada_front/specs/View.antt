@@ -1,13 +1,13 @@
--- What the code finds on its way: what has begun, and what is settled.
+-- What the code finds on its way: what has begun, what is settled, and what is left.
 
-use Rattle.std.specs.Prelude.{ℕ, zero, suc, Bool}
+use Rattle.std.specs.Prelude.{ℕ, zero, suc, Bool, List, Option, map, option_to_list}
 use Rattle.ada_text.specs.declared.spot.Spot.{Spot}
 use Rattle.ada_tree.specs.declared.declarations.Declaration.{Declaration}
 use Rattle.ada_tree.specs.declared.statements.Branch.{Branch}
 use Rattle.ada_tree.specs.declared.statements.Handler.{Handler}
 use Rattle.ada_tree.specs.declared.statements.Statement.{Statement}
-use Rattle.ada_tree.specs.Statements.{DeclarationsTree, no_declarations, a_declaration, DeclarationTree, record_type}
-use Rattle.ada_tree.specs.StatementView.{branch_of, declaration_of, handler_of, statement_of}
+use Rattle.ada_tree.specs.Statements.{DeclarationsTree, no_declarations, a_declaration, DeclarationTree, record_type, StatementsTree, BranchesTree, branches_from, HandlersTree, handlers_from}
+use Rattle.ada_tree.specs.StatementView.{branch_of, declaration_of, declarations_of, handler_of, statement_of, statements_of}
 use Rattle.ada_tree.specs.Declarations.{HeadTree}
 use Rattle.ada_tree.specs.Names.{Ident, ident_of}
 use Rattle.ada_tree.specs.Records.{null_record}
@@ -57,3 +57,27 @@ unfoldable pub settled_from : (at : ℕ) → DeclarationsTree → DeclarationsTr
 settled_from at no_declarations = no_declarations
 settled_from zero (a_declaration d ds) = settled_all (a_declaration d ds)
 settled_from (suc at) (a_declaration d ds) = a_declaration d (settled_from at ds)
+
+-- A list of branches.
+abbrev pub branches_of : List Branch → BranchesTree
+branches_of bs = branches_from (map branch_of bs)
+
+-- A list of handlers.
+abbrev pub handlers_of : List Handler → HandlersTree
+handlers_of hs = handlers_from (map handler_of hs)
+
+-- A declaration that is left, or none.
+abbrev pub declarations_left : Option Declaration → DeclarationsTree
+declarations_left d = declarations_of (option_to_list d)
+
+-- A statement that is left, or none.
+abbrev pub statements_left : Option Statement → StatementsTree
+statements_left s = statements_of (option_to_list s)
+
+-- A branch that is left, or none.
+abbrev pub branches_left : Option Branch → BranchesTree
+branches_left b = branches_of (option_to_list b)
+
+-- A handler that is left, or none.
+abbrev pub handlers_left : Option Handler → HandlersTree
+handlers_left h = handlers_of (option_to_list h)

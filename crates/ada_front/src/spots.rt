@@ -4,12 +4,13 @@ ghost use Rattle.std.specs.Prelude.{◌≡◌};
 ghost use Rattle.ada_front.specs.Front as front;
 ghost use Rattle.ada_front.specs.Spots.{declaration_start, expression_start, first_or, statement_start};
 ghost use Rattle.ada_tree.specs.ExpressionView.{expression_of};
-ghost use Rattle.ada_tree.specs.StatementView.{declaration_of, statement_of};
+ghost use Rattle.ada_front.specs.View.{handlers_of};
+ghost use Rattle.ada_tree.specs.StatementView.{declaration_of, statement_of, statements_of};
 
 use ada_text::Spot;
 use ada_tree::declarations::Declaration;
 use ada_tree::expressions::Expression;
-use ada_tree::statements::Statement;
+use ada_tree::statements::{Handler, Statement};
 
 /// Whether a place stands before another one in the text.
 pub fn stands_before(one: Spot, other: Spot) -> bool
@@ -80,5 +81,25 @@ pub fn statement_start(statement: &Statement<'_>) -> Spot
         Statement::Assignment { target, .. } => target.root.spot,
         Statement::Call { procedure, .. } => procedure.root.spot,
         Statement::Block(body) => body.begin,
+    }
+}
+
+/// Where statements begin; where there are none, what stands behind them.
+pub fn statements_start(statements: &[Statement<'_>], behind: Spot) -> Spot
+    ensures { result ≡ front.statements_start (statements_of statements.now) behind }
+{
+    match statements.first() {
+        Some(first) => statement_start(first),
+        None => behind,
+    }
+}
+
+/// Where handlers begin; where there are none, what stands behind them.
+pub fn handlers_start(handlers: &[Handler<'_>], behind: Spot) -> Spot
+    ensures { result ≡ front.handlers_start (handlers_of handlers.now) behind }
+{
+    match handlers.first() {
+        Some(first) => first.spot,
+        None => behind,
     }
 }

@@ -1,6 +1,6 @@
 -- Procedures that are frugal have frugal bodies, by what is known of all procedures: what is known of the first ones stays known.
 
-use Rattle.std.proofs.Common.{◌≡◌, ℕ, zero, suc, Bool, true, false, ◌&&◌, List, [], ◌∷◌, ◌++◌, length, map, ◌+◌, ◌<◌, Some, None, refl, sym, ap, ◌∙◌, subst, arith}
+use Rattle.std.proofs.Common.{◌≡◌, ℕ, zero, suc, Bool, true, false, ◌&&◌, ◌||◌, List, [], ◌∷◌, ◌++◌, length, map, ◌+◌, ◌<◌, Option, Some, None, refl, sym, ap, ◌∙◌, subst, inl, inr, arith}
 use Rattle.std.specs.Prelude.{not, ◌==◌, if◌then◌else◌, is_some, Option}
 use Rattle.std.specs.List.{list_all, slice_get, slice_index_or}
 use Rattle.ada_effects.specs.Effects.{record_path_raises}
@@ -9,11 +9,12 @@ use Rattle.ada_program.specs.declared.program.ComponentKind.{ComponentKind}
 use Rattle.ada_program.specs.declared.program.ComponentKind.TheVariants as component
 use Rattle.ada_program.specs.Nested.{collected, is_one_of, kind_is_open, are_open, record_nests}
 use Rattle.ada_program.specs.ProgramForm.{TypeForm, BodyForm, ProgramForm}
-use Rattle.ada_program.specs.WellFormed.{finalization_of, reached_components}
+use Rattle.ada_program.specs.WellFormed.{finalization_of, object_named, reached_components}
 use Rattle.ada_quiet.specs.Apart.{is_bare_item}
 use Rattle.ada_quiet.specs.Bare.{has_bare_objects}
+use Rattle.std.proofs.lemmas.Bool.{or_cases, or_left, or_right}
 use Rattle.ada_quiet.specs.Calm.{inert_types, is_known_calm}
-use Rattle.ada_quiet.specs.Frugal.{Thrift, assigns_at_hand, allocates_frugally, is_bare_initial, is_frugal_declaration, are_frugal_declarations, is_frugal_stmt, are_frugal, are_frugal_branches, are_frugal_handlers, is_frugal_body, frugal_from, frugal_procedures, frugal_operations, thrift_of}
+use Rattle.ada_quiet.specs.Frugal.{Thrift, assigns_at_hand, allocates_frugally, is_bare_initial, is_inert_named, is_inert_initial, is_frugal_declaration, are_frugal_declarations, is_frugal_stmt, are_frugal, are_frugal_branches, are_frugal_handlers, is_frugal_body, frugal_from, frugal_procedures, frugal_operations, thrift_of}
 use Rattle.ada_quiet.proofs.InUse.{others}
 
 -- Of two tests one is chosen in the same way.
@@ -76,14 +77,31 @@ module _ (one other : Thrift) (same : one.types ≡ other.types) (opens : OpensM
       ap (λ (types : List TypeForm). record_nests types other.outermost t) (sym same)
       ∙ reached_more one.outermost other.outermost opens (reached_components one.types t) h
 
+  -- So is an initial value of an inert type.
+  inert_more : (o : Option ℕ) → is_inert_named one o ≡ true → is_inert_named other o ≡ true
+  inert_more None h = absurd (cc h)
+  inert_more (Some t) h =
+      let known = λ (inert : List Bool) (types : List TypeForm). is_known_calm inert (finalization_of types t) in
+      sym (ap (λ (inert : List Bool). known inert one.types) alike ∙ ap (known other.inert) same) ∙ h
+
+  initial_more : (t : ℕ) (items : List ItemForm) → (is_bare_initial one.types t items || is_inert_initial one t) ≡ true
+      → (is_bare_initial other.types t items || is_inert_initial other t) ≡ true
+  initial_more t items h = elim (or_cases (is_bare_initial one.types t items) (is_inert_initial one t) h) [
+    | inl bare ↦
+        or_left (is_bare_initial other.types t items) (is_inert_initial other t) (ap (λ (types : List TypeForm). is_bare_initial types t items) (sym same) ∙ bare)
+    | inr inert ↦
+        or_right (is_bare_initial other.types t items) (is_inert_initial other t)
+        (ap (λ (types : List TypeForm). is_inert_named other (object_named types (Some t))) (sym same) ∙ inert_more (object_named one.types (Some t)) inert)
+  ]
+
   declaration_more : (d : DeclarationForm) → is_frugal_declaration one d ≡ true → is_frugal_declaration other d ≡ true
   declaration_more (creates_pool p) h = h
   declaration_more (collects access) h = h
   declaration_more (declares x right) h = right_more right h
   declaration_more (declares_record x t None) h = nests_more t h
   declaration_more (declares_record x t (Some items)) h =
-      others (record_nests one.types one.outermost t) (is_bare_initial one.types t items) (record_nests other.types other.outermost t)
-      (is_bare_initial other.types t items) (nests_more t) (λ bare. ap (λ (types : List TypeForm). is_bare_initial types t items) (sym same) ∙ bare) h
+      others (record_nests one.types one.outermost t) (is_bare_initial one.types t items || is_inert_initial one t) (record_nests other.types other.outermost t)
+      (is_bare_initial other.types t items || is_inert_initial other t) (nests_more t) (initial_more t items) h
 
   declarations_more : (ds : List DeclarationForm) → are_frugal_declarations one ds ≡ true → are_frugal_declarations other ds ≡ true
   declarations_more [] h = refl
@@ -96,7 +114,7 @@ module _ (one other : Thrift) (same : one.types ≡ other.types) (opens : OpensM
   hand_more target h =
       let known = λ (inert : List Bool) (types : List TypeForm). is_known_calm inert (finalization_of types target.record_type) in
       let near = not (record_path_raises target) in
-      let inside = target.object.root == 0 && not (target.part == 0) in
+      let inside = not (target.object.root == 0 && target.part == 0) in
       others (one.operation && known one.inert one.types && near) inside (other.operation && known other.inert other.types && near) inside
       (others (one.operation && known one.inert one.types) near (other.operation && known other.inert other.types) near
       (others one.operation (known one.inert one.types) other.operation (known other.inert other.types) operates

@@ -3,14 +3,14 @@
 -- what they allocate, and record objects that name objects of the main procedure's collections alone: by default, or without controlled parts and with an
 -- initial value. S10 refuses a Finalize that allocates.
 
-use Rattle.std.specs.Prelude.{ℕ, Bool, true, false, not, ◌&&◌, ◌==◌, if◌then◌else◌, List, [], ◌∷◌, ◌++◌, map, Option, Some, None, is_some}
+use Rattle.std.specs.Prelude.{ℕ, Bool, true, false, not, ◌&&◌, ◌||◌, ◌==◌, if◌then◌else◌, List, [], ◌∷◌, ◌++◌, map, Option, Some, None, is_some}
 use Rattle.std.specs.List.{list_all, slice_index_or}
 use Rattle.ada_effects.specs.Effects.{record_path_raises}
 use Rattle.ada_program.specs.Form.{RecordPathForm, ItemForm, RightForm, nothing, value_of, allocates, allocates_default, computes, StmtForm, skips, assigns, assigns_record, frees, gets, writes, writes_text, chooses, repeats, counts, exits, calls, returns, raises, encloses, StmtsForm, no_stmts, a_stmt, BranchesForm, otherwise, a_branch, HandlersForm, no_handlers, a_handler, DeclarationForm, creates_pool, collects, declares, declares_record}
 use Rattle.ada_program.specs.declared.program.ProcedureNo.{ProcedureNo}
 use Rattle.ada_program.specs.Nested.{collected, record_nests}
 use Rattle.ada_program.specs.ProgramForm.{TypeForm, BodyForm, ProgramForm}
-use Rattle.ada_program.specs.WellFormed.{finalization_of}
+use Rattle.ada_program.specs.WellFormed.{finalization_of, object_named}
 use Rattle.ada_quiet.specs.Apart.{is_bare_item}
 use Rattle.ada_quiet.specs.Bare.{has_bare_objects}
 use Rattle.ada_quiet.specs.Calm.{inert_types, is_known_calm}
@@ -38,25 +38,34 @@ allocates_frugally thrift (computes e) = true
 abbrev pub is_bare_initial : List TypeForm → (object_type : ℕ) → List ItemForm → Bool
 is_bare_initial types t items = not (holds_parts types t) && list_all (is_bare_item types) items
 
--- A declaration is that of a variable (3.3.1), and so it is with what that is given at first; or of a record object that is initialized by default, or that has
--- no controlled parts, and whose components, at any depth, name objects of outermost collections alone (3.8, 3.10.2): no collection and no pool is created.
+-- So may one of a type that is known to be inert: then nothing is called as it is adjusted (7.6), nor as its master is left (7.6.1).
+abbrev pub is_inert_named : Thrift → (record_type : Option ℕ) → Bool
+is_inert_named thrift None = false
+is_inert_named thrift (Some t) = is_known_calm thrift.inert (finalization_of thrift.types t)
+
+abbrev pub is_inert_initial : Thrift → (object_type : ℕ) → Bool
+is_inert_initial thrift t = is_inert_named thrift (object_named thrift.types (Some t))
+
+-- A declaration is that of a variable (3.3.1), and so it is with what that is given at first; or of a record object that is initialized by default, or that may
+-- get its initial value, and whose components, at any depth, name objects of outermost collections alone (3.8, 3.10.2): no collection and no pool is created.
 abbrev pub is_frugal_declaration : Thrift → DeclarationForm → Bool
 is_frugal_declaration thrift (creates_pool p) = false
 is_frugal_declaration thrift (collects access) = false
 is_frugal_declaration thrift (declares x right) = allocates_frugally thrift right
 is_frugal_declaration thrift (declares_record x t None) = record_nests thrift.types thrift.outermost t
-is_frugal_declaration thrift (declares_record x t (Some items)) = record_nests thrift.types thrift.outermost t && is_bare_initial thrift.types t items
+is_frugal_declaration thrift (declares_record x t (Some items)) =
+    record_nests thrift.types thrift.outermost t && (is_bare_initial thrift.types t items || is_inert_initial thrift t)
 
 -- So is each of these.
 abbrev pub are_frugal_declarations : Thrift → List DeclarationForm → Bool
 are_frugal_declarations thrift ds = list_all (is_frugal_declaration thrift) ds
 
--- A record with controlled parts is assigned to as a whole (5.2) in the body of an operation alone, and only where it is inert, and lies at hand: in the formal
--- parameter, which is the first variable, and is not that as a whole; no access value is followed on the way (4.1).
+-- A record with controlled parts is assigned to as a whole (5.2) in the body of an operation alone, and only where it is inert, and lies at hand: in a record
+-- variable, and no access value is followed on the way (4.1). If that is the formal parameter, which is the first variable, it is not that as a whole.
 abbrev pub assigns_at_hand : Thrift → RecordPathForm → Bool
 assigns_at_hand thrift target =
     thrift.operation && is_known_calm thrift.inert (finalization_of thrift.types target.record_type) && not (record_path_raises target)
-    && (target.object.root == 0 && not (target.part == 0))
+    && not (target.object.root == 0 && target.part == 0)
 
 module _ (thrift : Thrift) where
   abbrev mutual

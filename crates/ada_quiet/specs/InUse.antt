@@ -92,14 +92,27 @@ operations_stand_in_order p = operations_stand_apart p && list_all (is_copied_in
 abbrev pub adjusts_nothing : ProgramForm → Bool
 adjusts_nothing p = not (copies_parts p) && operations_stand_in_order p
 
+-- A type that declares a component of an access type directly overrides no Adjust (3.10, 7.6).
+abbrev pub leaves_access : TypeForm → Option Finalization → Bool
+leaves_access t None = true
+leaves_access t (Some f) = not (has_access (Some t)) || is_inherited f.operations.adjust
+
+-- So it is with each type: no Adjust tracks, and a record that is copied has no component of an access type, at any depth.
+abbrev pub tracks_nothing : ProgramForm → Bool
+tracks_nothing p = list_all (λ t. leaves_access t (finalization_in (Some t))) p.types
+
+-- An Adjust may be frugal in a program in which an Initialize and a Finalize may be, and no Adjust tracks.
+abbrev pub may_adjust_frugally : ProgramForm → Bool
+may_adjust_frugally p = may_be_frugal p && tracks_nothing p
+
 -- Where one may be called, Adjust is simple, where it may track, if a body overrides it of a type that declares a component of an access type directly (3.10,
 -- 7.6): behind it that component of a copy holds a value of its own, or null. It frees nothing where a record has two controlled parts: what the one that is
--- adjusted later still shares with the source of the copy stays. Of another type it is quiet.
+-- adjusted later still shares with the source of the copy stays. Of another type it is quiet, or frugal, where it may be.
 abbrev pub uses_called_adjust : ProgramForm → (owns : Bool) → Option ProcedureNo → Bool
 uses_called_adjust p owns adjust =
     if owns && is_some (operation_body p adjust)
     then may_track p && is_simple_operation p (adjusts_alone p) adjust
-    else is_quiet_operation p adjust
+    else is_quiet_operation p adjust || (may_adjust_frugally p && is_frugal_operation p adjust)
 
 -- So Adjust is in use; and where none is called, a frugal one is, too.
 abbrev pub uses_adjust : ProgramForm → (owns : Bool) → Option ProcedureNo → Bool

@@ -190,7 +190,7 @@ fn is_calmly_copied_found(
 ///
 /// # Errors
 /// `AllocError` where memory was refused.
-fn calmly_copied_types(alloc: Global, program: &Program) -> Result<Vec<bool>, AllocError>
+pub(crate) fn calmly_copied_types(alloc: Global, program: &Program) -> Result<Vec<bool>, AllocError>
     ensures { IfOk result (λ calm. calm.items ≡ rules.calmly_copied_types (program_form program.now)) }
 {
     let numbered = numbered_types(alloc, &program.types)?;

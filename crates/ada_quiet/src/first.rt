@@ -1,10 +1,11 @@
 //! The first body in the text that overrides an operation of a controlled type and is not in use, in a program that may call some:
-//! Initialize is neither plain nor frugal, where it may be, Adjust is not frugal, where none is called, and not quiet, or, of a type with a
-//! component of an access type, not simple, or may not track, or frees objects where a record of the program has two controlled parts, or
-//! Finalize is neither quiet nor, where it may be, frugal.
+//! Initialize is neither plain nor frugal, where it may be, Adjust is neither quiet nor, where none is called or it may be, frugal, or, of a
+//! type with a component of an access type, not simple, or may not track, or frees objects where a record of the program has two controlled
+//! parts, or Finalize is neither quiet nor, where it may be, frugal.
 
 ghost use Rattle.std.specs.Prelude.{◌≡◌, ◌↔◌, None, true, IfOk};
 ghost use Rattle.ada_program.specs.ProgramForm.{program_form};
+ghost use Rattle.ada_quiet.specs.Calm.{calmly_copied_types};
 ghost use Rattle.ada_quiet.specs.First as rules;
 ghost use Rattle.ada_quiet.specs.First.{BeginsUnused, IsFirst, IsFirstUnused};
 ghost use Rattle.ada_quiet.specs.Frugal as spent;
@@ -12,10 +13,11 @@ ghost use Rattle.ada_quiet.specs.InUse as in_use;
 ghost use Rattle.ada_quiet.specs.InUse.{operations_are_in_use, operations_may_be_called};
 ghost use Rattle.ada_quiet.specs.Quiet as quiet;
 
+use crate::calm::calmly_copied_types;
 use crate::frugal::frugal_operations;
 use crate::idle::{adjusts_nothing, are_idle};
 use crate::operations::has_access;
-use crate::tracking::{adjusts_alone, may_track};
+use crate::tracking::{adjusts_alone, may_track, tracks_nothing};
 use crate::uses::{may_be_frugal, uses_adjust, uses_finalize, uses_initialize};
 use ada_program::parts::finalization_of;
 use ada_program::program::Finalization;
@@ -63,6 +65,8 @@ struct Allowed {
     frugal: bool,
     /// Whether no Adjust is called, and one may be frugal.
     nothing: bool,
+    /// Whether an Adjust that may be called may be frugal.
+    freely: bool,
     /// Whether an Adjust may track.
     tracks: bool,
     /// Whether the copy of a record adjusts one controlled part alone.
@@ -76,34 +80,39 @@ struct Allowed {
 fn allowed_in(alloc: Global, program: &Program) -> Result<Allowed, AllocError>
     ensures frugal { IfOk result (λ allowed. allowed.frugal ≡ in_use.may_be_frugal (program_form program.now)) }
     ensures nothing { IfOk result (λ allowed. allowed.nothing ≡ in_use.adjusts_nothing (program_form program.now)) }
+    ensures freely { IfOk result (λ allowed. allowed.freely ≡ in_use.may_adjust_frugally (program_form program.now)) }
     ensures tracks { IfOk result (λ allowed. allowed.tracks ≡ in_use.may_track (program_form program.now)) }
     ensures alone { IfOk result (λ allowed. allowed.alone ≡ in_use.adjusts_alone (program_form program.now)) }
 {
     let frugal = may_be_frugal(alloc, program)?;
     let nothing = adjusts_nothing(alloc, program)?;
+    let freely = frugal && tracks_nothing(program);
     let tracks = may_track(alloc, program, frugal)?;
     let alone = adjusts_alone(program);
     Ok(Allowed {
         frugal,
         nothing,
+        freely,
         tracks,
         alone,
     })
 }
 
 /// The first one of those that override the operations of a type and are not in use, by the procedures whose bodies are frugal, where
-/// this is allowed, and the type has such a component or not.
+/// this is allowed, by the types that are calm where objects are copied, and the type has such a component or not.
 fn unused_in(
     alloc: Global,
     program: &Program,
     frugal: &[bool],
+    copied: &[bool],
     may: Allowed,
     owns: bool,
     finalization: Option<Finalization>,
 ) -> Result<Option<Spot>, AllocError>
-    requires { frugal.now ≡ spent.frugal_operations (program_form program.now) }
+    requires frugal { frugal.now ≡ spent.frugal_operations (program_form program.now) }
+    requires copied { copied.now ≡ calmly_copied_types (program_form program.now) }
     ensures { IfOk result (λ first. first
-        ≡ rules.unused_in (program_form program.now) may.frugal may.nothing may.tracks may.alone owns finalization) }
+        ≡ rules.unused_in (program_form program.now) may.frugal may.nothing may.freely may.tracks may.alone owns finalization) }
 {
     let Some(finalization) = finalization else {
         return Ok(None);
@@ -114,7 +123,9 @@ fn unused_in(
         alloc,
         program,
         frugal,
+        copied,
         may.nothing,
+        may.freely,
         may.tracks,
         may.alone,
         owns,
@@ -138,6 +149,7 @@ fn first_uncallable(alloc: Global, program: &Program) -> Result<Option<Spot>, Al
     ensures called { IfOk result (λ first. (first ≡ None) ↔ (operations_may_be_called (program_form program.now) ≡ true)) }
 {
     let frugal = frugal_operations(alloc, program)?;
+    let copied = calmly_copied_types(alloc, program)?;
     let may = allowed_in(alloc, program)?;
     let mut first = None;
     'types: for number in 0..program.types.len() {
@@ -146,6 +158,7 @@ fn first_uncallable(alloc: Global, program: &Program) -> Result<Option<Spot>, Al
             alloc,
             program,
             &frugal,
+            &copied,
             may,
             owns,
             finalization_of(&program.types, number),

@@ -106,8 +106,29 @@ fn is_bare_initial(types: &[TypeDefinition], object: TypeNo, items: &[Item]) -> 
     !holds_parts(types, object.0) && are_bare_items(types, items)
 }
 
+/// Whether a record object is of a type that is known to be inert: then nothing is called as it is adjusted (7.6), nor as its master is
+/// left (7.6.1).
+fn is_inert_initial(thrift: Thrift<'_>, object: TypeNo) -> bool
+    ensures { let by = thrift_in thrift.entry.types.now (marked_in thrift.entry.outermost.now) thrift.entry.inert.now thrift.entry.procedures.now thrift.entry.operation in
+        result ≡ rules.is_inert_initial by object.0 }
+{
+    match thrift.types.get(object.0) {
+        Some(
+            TypeDefinition::Access {
+                name: _,
+                designated,
+                pool: _,
+            },
+        ) => is_known_calm(thrift.inert, finalization_of(thrift.types, designated.0)),
+        Some(TypeDefinition::Object { record }) => {
+            is_known_calm(thrift.inert, finalization_of(thrift.types, record.0))
+        }
+        _ => false,
+    }
+}
+
 /// Whether a declaration is that of a variable, and so it is with what that is given at first (3.3.1), or that of a record object that is
-/// initialized by default, or has no controlled parts, and whose components name objects of outermost collections alone.
+/// initialized by default, or may get its initial value, and whose components name objects of outermost collections alone.
 fn is_frugal_declaration(thrift: Thrift<'_>, declaration: &Declaration) -> bool
     ensures { let by = thrift_in thrift.entry.types.now (marked_in thrift.entry.outermost.now) thrift.entry.inert.now thrift.entry.procedures.now thrift.entry.operation in
         result ≡ rules.is_frugal_declaration by (declaration_form declaration.now) }
@@ -128,7 +149,8 @@ fn is_frugal_declaration(thrift: Thrift<'_>, declaration: &Declaration) -> bool
             initial: Some(items),
         } => {
             record_nests(thrift.types, thrift.outermost, *object)
-                && is_bare_initial(thrift.types, *object, items)
+                && (is_bare_initial(thrift.types, *object, items)
+                    || is_inert_initial(thrift, *object))
         }
         Declaration::Pool(_) | Declaration::Collection(_) => false,
     }
@@ -158,17 +180,17 @@ fn is_frugal_call(frugal: &[bool], procedure: ProcedureNo) -> bool
 }
 
 /// Whether the body is that of an operation, and a record with controlled parts that it assigns to as a whole (5.2) is inert, and lies at
-/// hand: in the formal parameter, which is the first variable, and is not that as a whole; no access
-/// value is followed on the way (4.1).
+/// hand: in a record variable, and no access value is followed on the way (4.1). If that is the formal parameter, which is the first
+/// variable, it is not that as a whole.
 fn assigns_at_hand(thrift: Thrift<'_>, target: &RecordPath) -> bool
     ensures { let by = thrift_in thrift.entry.types.now (marked_in thrift.entry.outermost.now) thrift.entry.inert.now thrift.entry.procedures.now thrift.entry.operation in
         result ≡ rules.assigns_at_hand by (record_path_form target.now) }
 {
-    let inside = target.object.root.0 == 0 && target.part.0 != 0;
+    let formal = target.object.root.0 == 0 && target.part.0 == 0;
     thrift.operation
         && is_known_calm(thrift.inert, finalization_of(thrift.types, target.record.0))
         && !record_path_raises(target)
-        && inside
+        && !formal
 }
 
 /// Whether a record that is assigned to as a whole lies so, if it has controlled parts; and else whether nothing is copied into it that

@@ -17,11 +17,11 @@
 //! the components of records in order, as below.
 //!
 //! In other programs `first_unused` finds the first body in the text that overrides an operation and is not in use: Initialize is to be
-//! plain or, where it may be, frugal, Finalize is to be quiet or, where it may be, frugal, and Adjust is to be quiet; but of a type with a
+//! plain or, where it may be, frugal, Finalize is to be quiet or, where it may be, frugal, and so is Adjust; but of a type with a
 //! component of an access type, declared in it directly, Adjust is to be simple, where it may track that component: a quiet one would leave
 //! it as it is. A simple body allocates objects without controlled parts, and frees some where it may, moves and follows, calls nothing,
 //! copies no record but into what it allocates, from another object than that of its formal parameter, and declares variables alone, none
-//! of which is of an access type whose objects have controlled parts.
+//! of which is of an access type whose objects have a part with an Adjust that tracks.
 //!
 //! An Initialize and a Finalize may be frugal in a program in which no access type designates a record type with controlled parts, so that
 //! these lie in declared objects alone. They may be frugal, too, in one whose access types designate such record types, if its collections
@@ -45,6 +45,9 @@
 //! and a Finalize where an object's master is left, an exception comes out of the initialization of one (7.6.1), another record is
 //! assigned to it (7.6), or a variable or a component is freed that names it (13.11.2), and nowhere else.
 //!
+//! An Adjust that may be called may be frugal where an Initialize may be, in a program in which no Adjust tracks (`tracks_nothing`): there
+//! no record is copied that has a component of an access type, at any depth.
+//!
 //! An Adjust may track where a Finalize may be frugal, if also no component names an object that has a part whose Adjust tracks: where
 //! such an object is copied, each Adjust that is called leaves components as they are (`names_no_trackers`). And the elementary components
 //! of each record type are to stand in the order of its declared ones, and a record whose type overrides Adjust is to be controlled
@@ -56,9 +59,9 @@
 //! A program with another body is refused (F23), since no theorem covers it so far: an Initialize, an Adjust or a Finalize that touches
 //! storage in another program, gives values to the components of objects with controlled parts that it allocates, declares records with a
 //! component of an access type that a block or a procedure declares, or with an initial value, or assigns other records with such parts, an
-//! Adjust that may be called and frees objects with controlled parts, one that touches storage of a type without a component of an access
-//! type, operations that call procedures that are not frugal, and an Adjust that calls, assigns to records as a whole, copies records out
-//! of its own object, or frees objects where a record has two controlled parts.
+//! Adjust that tracks and frees objects with controlled parts, one that touches storage beside one that tracks, operations that call
+//! procedures that are not frugal, and an Adjust that tracks and calls, assigns to records as a whole, copies records out of its own object,
+//! or frees objects where a record has two controlled parts.
 #![tactic(auto)]
 
 mod apart;

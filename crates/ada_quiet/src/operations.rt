@@ -5,6 +5,7 @@ ghost use Rattle.std.specs.List.{list_any, slice_get};
 ghost use Rattle.ada_program.specs.Kept.{types_in};
 ghost use Rattle.ada_program.specs.ProgramForm.{ProgramForm, part_form, program_form, type_form};
 ghost use Rattle.ada_program.specs.WellFormed as fits;
+ghost use Rattle.ada_quiet.specs.Calm.{calmly_copied_types};
 ghost use Rattle.ada_quiet.specs.Frugal as spent;
 ghost use Rattle.ada_quiet.specs.Quiet as rules;
 ghost use Rattle.ada_quiet.specs.Simple as simple;
@@ -59,12 +60,14 @@ pub(crate) fn is_frugal_operation(frugal: &[bool], operation: Option<ProcedureNo
     }
 }
 
-/// Whether it has a simple one, where objects may be freed or not.
+/// Whether it has a simple one, where objects may be freed or not, by the types that are calm where objects are copied.
 pub(crate) fn is_simple_operation(
     program: &Program,
+    calm: &[bool],
     may_free: bool,
     operation: Option<ProcedureNo>,
 ) -> bool
+    requires { calm.now ≡ calmly_copied_types (program_form program.now) }
     ensures { result ≡ simple.is_simple_operation (program_form program.now) may_free operation }
 {
     let Some(number) = operation else {
@@ -73,7 +76,7 @@ pub(crate) fn is_simple_operation(
     let Some(procedure) = program.procedures.get(number.0) else {
         return true;
     };
-    is_simple_body(&program.types, may_free, procedure)
+    is_simple_body(&program.types, calm, may_free, procedure)
 }
 
 /// Whether all those have a quiet one that override the operations of a type.
@@ -115,7 +118,7 @@ pub(crate) fn have_access(parts: &[Part]) -> bool
 }
 
 /// Whether a type is a record type with such a component, declared in it directly.
-fn has_own_access(definition: &TypeDefinition) -> bool
+pub(crate) fn has_own_access(definition: &TypeDefinition) -> bool
     ensures { result ≡ rules.has_access (Some (type_form definition.now)) }
 {
     match definition {

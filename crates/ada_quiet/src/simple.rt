@@ -10,6 +10,7 @@ ghost use Rattle.ada_program.specs.ProgramForm.{body_form};
 ghost use Rattle.ada_quiet.specs.Simple as rules;
 
 use crate::bare::has_bare_objects;
+use crate::calm::has_calm_objects;
 use ada_program::Stmt;
 use ada_program::program::{
     Branch, Declaration, Handler, Item, Path, Procedure, Right, TypeDefinition, Variable,
@@ -183,23 +184,23 @@ fn are_simple_handlers(types: &[TypeDefinition], may_free: bool, handlers: &[Han
     true
 }
 
-/// Whether a variable holds an Integer, a Boolean, or values of an access type whose objects have no controlled parts (3.3.1, 3.10).
-fn is_bare_kind(types: &[TypeDefinition], kind: VariableKind) -> bool
-    ensures { result ≡ rules.is_bare_kind (types_in types.now) kind }
+/// Whether a variable holds an Integer, a Boolean, or values of an access type whose objects are calm (3.3.1, 3.10).
+fn is_calm_kind(types: &[TypeDefinition], calm: &[bool], kind: VariableKind) -> bool
+    ensures { result ≡ rules.is_calm_kind (types_in types.now) calm.now kind }
 {
     match kind {
         VariableKind::Integer | VariableKind::Boolean => true,
-        VariableKind::Access(access) => has_bare_objects(types, access),
+        VariableKind::Access(access) => has_calm_objects(types, calm, access),
         VariableKind::Record(_) => false,
     }
 }
 
 /// Whether each of these does.
-fn are_bare_kinds(types: &[TypeDefinition], variables: &[Variable]) -> bool
-    ensures { result ≡ list_all (λ x. rules.is_bare_kind (types_in types.now) x.kind) (variables_in variables.now) }
+fn are_calm_kinds(types: &[TypeDefinition], calm: &[bool], variables: &[Variable]) -> bool
+    ensures { result ≡ list_all (λ x. rules.is_calm_kind (types_in types.now) calm.now x.kind) (variables_in variables.now) }
 {
     'variables: for variable in variables {
-        if !is_bare_kind(types, variable.kind) {
+        if !is_calm_kind(types, calm, variable.kind) {
             return false;
         }
     }
@@ -207,27 +208,28 @@ fn are_bare_kinds(types: &[TypeDefinition], variables: &[Variable]) -> bool
 }
 
 /// Whether each variable of a body but its formal parameter does.
-fn has_bare_variables(types: &[TypeDefinition], variables: &[Variable]) -> bool
-    ensures { result ≡ list_all (λ x. rules.is_bare_kind (types_in types.now) x.kind) (drop 1 (variables_in variables.now)) }
+fn has_calm_variables(types: &[TypeDefinition], calm: &[bool], variables: &[Variable]) -> bool
+    ensures { result ≡ list_all (λ x. rules.is_calm_kind (types_in types.now) calm.now x.kind) (drop 1 (variables_in variables.now)) }
 {
     match variables {
         [] => true,
-        [_, others @ ..] => are_bare_kinds(types, others),
+        [_, others @ ..] => are_calm_kinds(types, calm, others),
     }
 }
 
 /// Whether a body is simple: it allocates objects without controlled parts, and frees some where objects may be freed, moves and
 /// follows; it calls nothing, copies no record but into what it allocates, from another object than that of the formal parameter, and
-/// declares variables alone, none of them a record or of an access type whose objects have controlled parts. An exception may come out of
-/// it. Linear in the body.
+/// declares variables alone, none of them a record or of an access type whose objects are not calm. An exception may come out of it.
+/// Linear in the body.
 pub(crate) fn is_simple_body(
     types: &[TypeDefinition],
+    calm: &[bool],
     may_free: bool,
     procedure: &Procedure,
 ) -> bool
-    ensures { result ≡ rules.is_simple_body (types_in types.now) may_free (body_form procedure.now) }
+    ensures { result ≡ rules.is_simple_body (types_in types.now) calm.now may_free (body_form procedure.now) }
 {
-    has_bare_variables(types, &procedure.variables)
+    has_calm_variables(types, calm, &procedure.variables)
         && are_simple_declarations(types, &procedure.declarations)
         && are_simple(types, may_free, &procedure.statements)
         && are_simple_handlers(types, may_free, &procedure.handlers)

@@ -1,6 +1,6 @@
 //! Where an Adjust may track the components of access types of its formal parameter (7.6): a Finalize may be frugal, no component names
 //! an object with a part whose Adjust tracks, the elementary components of each record type stand in the order of its declared components,
-//! and a record whose type overrides Adjust is itself adjusted. And where the copy of a record adjusts one controlled part alone: each
+//! and a record whose type overrides Adjust is itself adjusted. Where none tracks. And where the copy of a record adjusts one controlled part alone: each
 //! record has at most one.
 
 ghost use Rattle.std.specs.Prelude.{◌≡◌, ◌&&◌, ◌||◌, ◌==◌, Some, map, IfOk};
@@ -13,6 +13,7 @@ ghost use Rattle.ada_quiet.specs.Calm.{names_no_trackers};
 ghost use Rattle.ada_quiet.specs.InUse as rules;
 
 use crate::calm::names_no_trackers;
+use crate::operations::{finalization_in, has_own_access};
 use ada_program::Program;
 use ada_program::lookup::record_components;
 use ada_program::program::{ComponentKind, Finalization, Part, PartKind, TypeDefinition};
@@ -160,6 +161,30 @@ pub(crate) fn adjusts_alone(program: &Program) -> bool
 {
     'types: for definition in &program.types {
         if !is_adjusted_alone(definition) {
+            return false;
+        }
+    }
+    true
+}
+
+/// Whether a type that declares a component of an access type directly overrides no Adjust (3.10, 7.6).
+fn leaves_access(definition: &TypeDefinition) -> bool
+    ensures { let t = type_form definition.now in result ≡ rules.leaves_access t (fits.finalization_in (Some t)) }
+{
+    match finalization_in(definition) {
+        None => true,
+        Some(finalization) => {
+            !has_own_access(definition) || finalization.operations.adjust.is_none()
+        }
+    }
+}
+
+/// Whether that is so with each type of a program, so that no Adjust tracks. Linear in the types and their components.
+pub(crate) fn tracks_nothing(program: &Program) -> bool
+    ensures { result ≡ rules.tracks_nothing (program_form program.now) }
+{
+    'types: for definition in &program.types {
+        if !leaves_access(definition) {
             return false;
         }
     }

@@ -2,6 +2,7 @@
 
 ghost use Rattle.std.specs.Prelude.{◌≡◌, IfOk};
 ghost use Rattle.ada_program.specs.ProgramForm.{program_form, type_form};
+ghost use Rattle.ada_quiet.specs.Calm.{calmly_copied_types};
 ghost use Rattle.ada_quiet.specs.First as first;
 ghost use Rattle.ada_quiet.specs.Frugal.{frugal_operations};
 ghost use Rattle.ada_quiet.specs.InUse as rules;
@@ -70,8 +71,9 @@ pub(crate) fn uses_initialize(
 }
 
 /// Whether what overrides Adjust is frugal, where no Adjust is called; else whether it is simple, where it may track, if it is a body, and
-/// its type has a component of an access type, declared in it directly; of another type, whether it is quiet. What tracks may free objects
-/// where the copy of a record adjusts one controlled part alone, and there only.
+/// its type has a component of an access type, declared in it directly; of another type, whether it is quiet, or frugal, where it may be
+/// so freely. What tracks may free objects where the copy of a record adjusts one controlled part alone, and there only; and its variables
+/// name objects alone that are calm where they are copied, as these types are.
 ///
 /// # Errors
 /// `AllocError` where memory for the exceptions that it raises was refused.
@@ -79,22 +81,45 @@ pub(crate) fn uses_adjust(
     alloc: Global,
     program: &Program,
     procedures: &[bool],
+    copied: &[bool],
     nothing: bool,
+    freely: bool,
     tracks: bool,
     alone: bool,
     owns: bool,
     operation: Option<ProcedureNo>,
 ) -> Result<bool, AllocError>
-    requires { procedures.now ≡ frugal_operations (program_form program.now) }
-    ensures { IfOk result (λ answer. answer ≡ first.adjusts (program_form program.now) nothing tracks alone owns operation) }
+    requires frugal { procedures.now ≡ frugal_operations (program_form program.now) }
+    requires copied { copied.now ≡ calmly_copied_types (program_form program.now) }
+    ensures { IfOk result (λ answer. answer ≡ first.adjusts (program_form program.now) nothing freely tracks alone owns operation) }
 {
     if nothing && is_frugal_operation(procedures, operation) {
         return Ok(true);
     }
     if !(owns && is_overridden(program, operation)) {
-        return is_quiet_operation(alloc, program, operation);
+        return is_quiet_or_frugal(alloc, program, procedures, freely, operation);
     }
-    Ok(tracks && is_simple_operation(program, alone, operation))
+    Ok(tracks && is_simple_operation(program, copied, alone, operation))
+}
+
+/// Whether what overrides an operation is quiet, or frugal, where it may be.
+///
+/// # Errors
+/// `AllocError` where memory for the exceptions that it raises was refused.
+fn is_quiet_or_frugal(
+    alloc: Global,
+    program: &Program,
+    procedures: &[bool],
+    frugal: bool,
+    operation: Option<ProcedureNo>,
+) -> Result<bool, AllocError>
+    requires { procedures.now ≡ frugal_operations (program_form program.now) }
+    ensures { IfOk result (λ answer. answer ≡ first.finalizes (program_form program.now) frugal operation) }
+{
+    Ok(
+        is_quiet_operation(alloc, program, operation)?
+            || frugal && is_frugal_operation(procedures, operation),
+    )
 }
 
 /// Whether what overrides Finalize is quiet, or frugal, where it may be.
@@ -111,8 +136,5 @@ pub(crate) fn uses_finalize(
     requires { procedures.now ≡ frugal_operations (program_form program.now) }
     ensures { IfOk result (λ answer. answer ≡ first.finalizes (program_form program.now) frugal operation) }
 {
-    Ok(
-        is_quiet_operation(alloc, program, operation)?
-            || frugal && is_frugal_operation(procedures, operation),
-    )
+    is_quiet_or_frugal(alloc, program, procedures, frugal, operation)
 }

@@ -13,7 +13,6 @@ use Rattle.ada_program.specs.Form.{PathForm, RecordPathForm, ActualForm, in_valu
 use Rattle.ada_program.specs.ProgramForm.{TypeForm, VariableForm, BodyForm, ProgramForm, program_form, nowhere}
 use Rattle.ada_program.specs.WellFormed.{IsWellFormed, designated_in, designated_type, is_access, is_this, path_access, path_kind, selected_kind, type_fits, value_access, variable_fits, variable_kind}
 use Rattle.ada_quiet.specs.Bare.{has_bare_objects}
-use Rattle.ada_quiet.specs.Idle.{holds_parts}
 use Rattle.ada_deeds.specs.declared.deed.Callee.{Callee}
 use Rattle.ada_deeds.specs.declared.deed.Callee.TheVariants as callee
 use Rattle.ada_deeds.specs.declared.deed.Deed.{Deed}
@@ -27,7 +26,7 @@ use Rattle.ada_deeds.proofs.Naming.{KindFits, variable_fits_kind, path_fits_kind
 use Rattle.ada_deeds.proofs.Within.{counts_are_enough}
 use Rattle.ada_typed.proofs.Bodies.{SeenFits, seen_as, seen_fits}
 use Rattle.ada_reaching.specs.Apart.{Apart}
-use Rattle.ada_reaching.specs.Forms.{may_assign, may_end, may_follow, selectors_shun, path_shuns, record_path_shuns, expression_shuns, links_shun, condition_shuns, item_shuns, right_shuns, actual_shuns, declaration_shuns, declarations_shun, statement_shuns, statements_shun, branches_shun, handlers_shun}
+use Rattle.ada_reaching.specs.Forms.{may_assign, may_fill, may_end, may_follow, selectors_shun, path_shuns, record_path_shuns, expression_shuns, links_shun, condition_shuns, item_shuns, right_shuns, actual_shuns, declaration_shuns, declarations_shun, statement_shuns, statements_shun, branches_shun, handlers_shun}
 use Rattle.ada_reaching.specs.Law.{AreApart}
 use Rattle.ada_reaching.specs.Deeds.{AreShaped, UseNone, UnusedObjectsAreUntouched}
 use Rattle.ada_reaching.proofs.Law.{shunned_untouched}
@@ -252,7 +251,7 @@ module _ (types : List TypeForm) (shuns : ℕ → Bool) (apart : Apart) where
       declaration_idle (declares x right) shape none = right_idle right shape none
       declaration_idle (declares_record x object None) shape none = shape
       declaration_idle (declares_record x object (Some items)) shape none =
-          let bare = not (holds_parts types object) in
+          let bare = may_fill types apart object in
           let shapes = and_parts bare (list_all (item_shuns types (λ t. false) apart variables) items) shape in
           and_from bare (list_all (item_shuns types shuns apart variables) items) shapes.0 (items_idle items shapes.1 none)
 

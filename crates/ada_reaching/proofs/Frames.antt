@@ -31,7 +31,7 @@ use Rattle.ada_untouched.specs.Untouched.{IsInSight}
 use Rattle.ada_quiet.specs.Idle.{holds_parts}
 use Rattle.ada_reaching.specs.Apart.{IsLeftOf, whole}
 use Rattle.ada_reaching.specs.Reaching.{AreOwnedApart, InMasters, IsElsewhere, IsLast, IsOwnedApart, begins_anew, is_leaving, references_at, seeks_nothing}
-use Rattle.ada_reaching.specs.Forms.{expression_shuns, condition_shuns, path_shuns, statements_shun, branches_shun, may_declare, may_follow, may_own}
+use Rattle.ada_reaching.specs.Forms.{expression_shuns, condition_shuns, path_shuns, statements_shun, branches_shun, may_follow, may_own}
 use Rattle.ada_reaching.specs.Law.{AreApart, FirstHousesIts, GhostsStay, InnermostHousesIts, NewestHousesIts, AllGoOn}
 use Rattle.ada_reaching.proofs.Elsewhere.{elsewhere_drop, elsewhere_first, unary_elsewhere, binary_elsewhere, whole_elsewhere}
 use Rattle.ada_reaching.proofs.Going.{World, variables_in, Runs, LeftIn, Left, On, GoesRunning, OperandsSeek, ValueSeeks, changed_run, low_there, operands_run, stays, runs_on, sought, popped_runs, put_runs}
@@ -139,8 +139,8 @@ module _ (w : World) where
 
     -- So it is with what they may own.
     owned_ends : (t : ℕ) → may_own w.apart t ≡ true → IsEnding t
-    owned_ends t may = elim (or_cases (may_declare w.apart t) (not (holds_parts (map type_form w.apart.definitions) t)) may) [
-      | inl may_so ↦ inl (and_parts (w.apart.starts t) (w.apart.ends t) may_so).1
+    owned_ends t may = elim (or_cases (w.apart.ends t) (not (holds_parts (map type_form w.apart.definitions) t)) may) [
+      | inl may_so ↦ inl may_so
       | inr bare ↦ inr (bare_object tds (map type_form w.apart.definitions) t WholeFirst (ap (λ (ts : List TypeDefinition). map type_form ts) (sym own)) bare)
     ]
 

@@ -10,18 +10,19 @@ use Rattle.ada_program.specs.declared.program.TypeDefinition.{TypeDefinition}
 use Rattle.ada_program.specs.declared.program.VariableKind.{VariableKind}
 use Rattle.ada_program.specs.declared.program.VariableKind.TheVariants as variable
 use Rattle.ada_program.proofs.Shapes.{same_number}
-use Rattle.ada_program.specs.Controlled.{number_in, number_reached, shapes_of}
+use Rattle.ada_program.specs.Controlled.{number_in, number_of, number_reached, shapes_of}
 use Rattle.ada_program.specs.Form.{PathForm}
 use Rattle.ada_program.specs.ProgramForm.{TypeForm, record_of, access_to, object_of, VariableForm, type_form}
 use Rattle.ada_program.specs.WellFormed.{value_access, access_of, component_kind, held_kind, kind_among, reached_components, selected_kind, selectors_kind, root_kind, path_kind, variable_kind, finalization_of, named_in, object_named, components_in, components_reached, kind_fits, parent_first, says_parts, is_numbered_alone, type_fits}
 use Rattle.ada_parts.specs.declared.tasks.Direction.{Direction}
+use Rattle.ada_parts.specs.Shape.{Shape}
 use Rattle.ada_meaning.specs.declared.event.Cause.TheVariants.{Assigning}
 use Rattle.ada_meaning.specs.declared.state.Id.{Id}
 use Rattle.ada_meaning.specs.declared.state.Value.{Value}
 use Rattle.ada_meaning.specs.declared.state.Value.TheVariants.{Names}
 use Rattle.ada_meaning.specs.Frame.{Frame, ends}
 use Rattle.ada_meaning.specs.Frame as frame
-use Rattle.ada_meaning.specs.Step.{has_parts, all_tasks, tasks_for, before_last, last_of}
+use Rattle.ada_meaning.specs.Step.{has_parts, all_tasks, record_tasks, tasks_for, tasks_in, before_last, last_of}
 use Rattle.ada_meaning.specs.Named.{Object, object_at}
 use Rattle.ada_quiet.specs.Bare.{has_bare_objects, is_bare_access}
 use Rattle.ada_quiet.specs.Idle.{has_parts as record_has_parts, holds_parts}
@@ -238,6 +239,19 @@ pub bare_object :
 bare_object tds types t direction shown is =
     let number : number_reached tds t ≡ None = sym (known_number tds types t shown) ∙ none_shown types (object_named types (Some t)) is in
     ap (tasks_for (shapes_of tds) direction) number
+
+-- What is to be done for an object is that for its record (3.3.1).
+same_tasks : (shapes : List Shape) (direction : Direction) (n : Option ℕ) → tasks_for shapes direction n ≡ tasks_in shapes direction n 0
+same_tasks shapes direction None = refl
+same_tasks shapes direction (Some n) = refl
+
+pub object_tasks :
+    (tds : List TypeDefinition) (types : List TypeForm) (t r : ℕ) (direction : Direction) → map type_form tds ≡ types → object_named types (Some t) ≡ Some r
+    → all_tasks tds t direction ≡ record_tasks tds r direction 0
+object_tasks tds types t r direction shown named =
+    let number : number_reached tds t ≡ number_of tds (Some r) =
+    sym (known_number tds types t shown) ∙ ap (shown_number types) named ∙ sym (same_number tds r ∙ ap (λ (ts : List TypeForm). number_in (finalization_of ts r)) shown) in
+    ap (tasks_for (shapes_of tds) direction) number ∙ same_tasks (shapes_of tds) direction (number_of tds (Some r))
 
 -- A record has no controlled parts whose type has none.
 pub bare_record :

@@ -8,7 +8,7 @@ use Rattle.ada_program.specs.declared.program.TypeDefinition.{TypeDefinition}
 use Rattle.ada_program.specs.Form.{ExpressionForm, StmtForm, skips, assigns, assigns_record, frees, gets, writes, writes_text, chooses, repeats, counts, exits, calls, returns, raises, encloses, StmtsForm, no_stmts, a_stmt, BranchesForm, otherwise, a_branch, HandlersForm, DeclarationForm, creates_pool, collects, declares, declares_record}
 use Rattle.ada_program.specs.ProgramForm.{TypeForm, type_form}
 use Rattle.ada_program.specs.Typed.{reached_of, words_of}
-use Rattle.ada_program.specs.WellFormed.{finalization_of}
+use Rattle.ada_program.specs.WellFormed.{finalization_of, object_named}
 use Rattle.ada_parts.specs.declared.tasks.Direction.TheVariants.{PartsFirst}
 use Rattle.ada_meaning.specs.declared.event.Birth.TheVariants.{Copy, Creation}
 use Rattle.ada_meaning.specs.declared.state.Mode.TheVariants.{Raising, Exiting, Returning}
@@ -16,13 +16,14 @@ use Rattle.ada_meaning.specs.declared.state.Value.{Value}
 use Rattle.ada_meaning.specs.Frame.{begins}
 use Rattle.ada_meaning.specs.Frame as frame
 use Rattle.ada_meaning.specs.State.{Item, Master, height, record_object}
-use Rattle.ada_meaning.specs.Step.{moves, all_tasks, has_parts, at, entered, initial_values, made, owned, places, put, record_cell, with_places, branches_next, decided_next, turn_next, repeats_next, turned_next, count_turn_next, ranges_next, exit_next, exited_next, stmt_next, stmts_next, line_next, declarations_next}
+use Rattle.ada_parts.specs.Task.{Task}
+use Rattle.ada_meaning.specs.Step.{moves, all_tasks, record_tasks, has_parts, at, entered, initial_values, made, owned, places, put, record_cell, with_places, branches_next, decided_next, turn_next, repeats_next, turned_next, count_turn_next, ranges_next, exit_next, exited_next, stmt_next, stmts_next, line_next, declarations_next}
 use Rattle.ada_meaning.specs.Named.{State, named, an_integer, create, created}
 use Rattle.ada_meaning.specs.Event.{Quiet}
 use Rattle.ada_quiet.specs.Idle.{holds_parts}
-use Rattle.ada_reaching.specs.Apart.{IsLeftOf, whole}
-use Rattle.ada_reaching.specs.Reaching.{InMasters, begins_anew}
-use Rattle.ada_reaching.specs.Forms.{may_assign, may_declare, may_own, may_follow, may_end, record_path_shuns, expression_shuns, condition_shuns, item_shuns, actual_shuns, declaration_shuns, declarations_shun, statement_shuns, statements_shun, branches_shun, handlers_shun}
+use Rattle.ada_reaching.specs.Apart.{IsLeftIn, IsLeftOf, whole, whole_in}
+use Rattle.ada_reaching.specs.Reaching.{AssignsApart, InMasters, begins_anew}
+use Rattle.ada_reaching.specs.Forms.{may_assign, may_assign_named, may_fill, may_declare, may_own, may_follow, may_end, record_path_shuns, expression_shuns, condition_shuns, item_shuns, actual_shuns, declaration_shuns, declarations_shun, statement_shuns, statements_shun, branches_shun, handlers_shun}
 use Rattle.ada_reaching.specs.Law.{AreApart, AllGoOn}
 use Rattle.ada_reaching.proofs.Going.{World, variables_in, IsRun, Runs, LeftIn, Left, On, Goes, created_run, stays, jumps, put_runs}
 use Rattle.ada_reaching.proofs.Masters.{InOwn, declares_in, entered_run, grown_left, height_run, own_in, owned_run}
@@ -32,8 +33,8 @@ use Rattle.ada_reaching.proofs.Calls.{call_goes}
 use Rattle.ada_reaching.proofs.Forms.{untreated}
 use Rattle.ada_reaching.proofs.Frees.{frees_go}
 use Rattle.ada_reaching.proofs.Rooted.{StatementIsRooted, StatementsAreRooted}
-use Rattle.ada_reaching.proofs.Selections.{bare_object, bare_record}
-use Rattle.ada_reaching.proofs.Treats.{starting_left}
+use Rattle.ada_reaching.proofs.Selections.{bare_object, bare_record, object_tasks}
+use Rattle.ada_reaching.proofs.Treats.{begun_left, starting_left}
 
 module _ (w : World) where
   -- An expression shuns the types.
@@ -241,13 +242,42 @@ module _ (w : World) where
   module _ (tds : List TypeDefinition) (known : map type_form tds ≡ w.p.types) (own : w.apart.definitions ≡ tds) where
     -- A record object that may be declared by default may be owned,
     default_owned : (t : ℕ) → may_declare w.apart t ≡ true → may_own w.apart t ≡ true
-    default_owned t may = or_left (may_declare w.apart t) (not (holds_parts (map type_form w.apart.definitions) t)) may
+    default_owned t may = or_left (w.apart.ends t) (not (holds_parts (map type_form w.apart.definitions) t)) (and_parts (w.apart.starts t) (w.apart.ends t) may).1
 
     -- and so may one without controlled parts (7.6).
     bare_owned : (t : ℕ) → not (holds_parts w.p.types t) ≡ true → may_own w.apart t ≡ true
     bare_owned t bare =
-        or_right (may_declare w.apart t) (not (holds_parts (map type_form w.apart.definitions) t))
+        or_right (w.apart.ends t) (not (holds_parts (map type_form w.apart.definitions) t))
         (subst (λ (types : List TypeForm). not (holds_parts types t) ≡ true) (sym (ap (λ (ts : List TypeDefinition). map type_form ts) own ∙ known)) bare)
+
+    -- So may one that gets an initial value, and there is nothing to be done for it, or it is adjusted as what is assigned is.
+    filled_owned : (t : ℕ) → may_fill w.p.types w.apart t ≡ true → may_own w.apart t ≡ true
+    filled_owned t may =
+        let named = may_assign_named w.apart (object_named w.p.types (Some t)) in
+        elim (or_cases (not (holds_parts w.p.types t)) (w.apart.ends t && named) may) [
+          | inl bare ↦ bare_owned t bare
+          | inr copied ↦ or_left (w.apart.ends t) (not (holds_parts (map type_form w.apart.definitions) t)) (and_parts (w.apart.ends t) named copied).0
+        ]
+
+    assigned_tasks :
+        (t : ℕ) (o : Option ℕ) → object_named w.p.types (Some t) ≡ o → may_assign_named w.apart o ≡ true
+        → AssignsApart w.apart PartsFirst (all_tasks tds t PartsFirst)
+    assigned_tasks t None named may = absurd (cc may)
+    assigned_tasks t (Some r) named may = record {
+      record_type = r;
+      may = may;
+      left =
+          subst (λ (tasks : List Task). IsLeftIn w.apart.definitions PartsFirst r tasks) (sym (object_tasks tds w.p.types t r PartsFirst known named))
+          (subst (λ (ts : List TypeDefinition). IsLeftIn w.apart.definitions PartsFirst r (record_tasks ts r PartsFirst 0)) own (whole_in 0));
+    }
+
+    filled_tasks : (t : ℕ) → may_fill w.p.types w.apart t ≡ true → (all_tasks tds t PartsFirst ≡ []) ⊎ AssignsApart w.apart PartsFirst (all_tasks tds t PartsFirst)
+    filled_tasks t may =
+        let named = may_assign_named w.apart (object_named w.p.types (Some t)) in
+        elim (or_cases (not (holds_parts w.p.types t)) (w.apart.ends t && named) may) [
+          | inl bare ↦ inl (bare_object tds w.p.types t PartsFirst known bare)
+          | inr copied ↦ inr (assigned_tasks t (object_named w.p.types (Some t)) refl (and_parts (w.apart.ends t) named copied).1)
+        ]
 
     -- The bodies go on as a record object is there, which their innermost master owns, and is initialized next (3.3.1, 7.6).
     made_goes :
@@ -276,13 +306,13 @@ module _ (w : World) where
         (record { access = t; may = two.0; created = refl; left = all; begun = tt }) behind refl in
         stays inner (made named tds x t Creation values (at (frame.Elaborates ds fs hs ∷ s.control) s)) runs starts.0 starts.1
 
-    -- So they do as one without controlled parts is there, which gets what its items were: nothing is to be done for it.
+    -- So they do as one is there that gets what its items were: nothing is to be done for it, or it is adjusted, and nothing is called.
     pub record_goes_on :
-        (x t : ℕ) (values : List Value) (s : State) (upper : List Master) → w.upper ≡ upper → not (holds_parts w.p.types t) ≡ true
+        (x t : ℕ) (values : List Value) (s : State) (upper : List Master) → w.upper ≡ upper → may_fill w.p.types w.apart t ≡ true
         → InMasters w.apart w.lower (frame.DeclaresRecord x t) upper (λ (ns : List Master). LeftIn w ns s.control) → Runs w s
         → begins_anew s.control ≡ true → On w (made named tds x t Copy values s)
-    record_goes_on x t values s [] is bare left r anew = absurd left
-    record_goes_on x t values s (m ∷ ms) is bare left r anew =
+    record_goes_on x t values s [] is may left r anew = absurd left
+    record_goes_on x t values s (m ∷ ms) is may left r anew =
         let item : Item = record { number = height s.masters; owned = record_object t } in
         let inner : World = record w { upper = record m { items = item ∷ m.items } ∷ ms } in
         let words = words_of tds t in
@@ -293,10 +323,15 @@ module _ (w : World) where
         put_runs w x v (record s { heap = after }) (new_elsewhere w s.heap r.same words) (created_run w words cell s.activations s.masters s.heap r) in
         let runs = owned_run w (with_places (slice_set (places s) x v) s.activations) s.masters after placed m ms is item in
         let behind : Left inner s.control =
-        grown_left w.p w.shuns w.apart w.ghosts w.unnamed w.behind w.lower item (bare_owned t bare, height_run w s.activations s.masters s.heap r) m ms w.procedure
+        grown_left w.p w.shuns w.apart w.ghosts w.unnamed w.behind w.lower item (filled_owned t may, height_run w s.activations s.masters s.heap r) m ms w.procedure
         s.control w.suspended left in
-        untreated inner v (begins Copy []) (all_tasks tds t PartsFirst) (owned (record_object t) (put x v (record s { heap = after })))
-        (bare_object tds w.p.types t PartsFirst known bare) (stays inner (owned (record_object t) (put x v (record s { heap = after }))) runs behind anew)
+        let so = owned (record_object t) (put x v (record s { heap = after })) in
+        elim (filled_tasks t may) [
+          | inl none ↦ untreated inner v (begins Copy []) (all_tasks tds t PartsFirst) so none (stays inner so runs behind anew)
+          | inr adjusted ↦
+              let adjusts = begun_left inner v Copy [] (all_tasks tds t PartsFirst) s.control (new_in_sight w s.heap r.same words) (inr adjusted) behind anew in
+              stays inner (made named tds x t Copy values s) runs adjusts.0 adjusts.1
+        ]
 
     -- The bodies go on as a declaration is elaborated, or the statements behind the last one come.
     pub declarations_go :
@@ -324,7 +359,7 @@ module _ (w : World) where
         made_goes x t (initial_values named (reached_of tds t)) ds fs hs s w.upper refl three.0 three.1 left r anew
     declarations_go (declares_record x t (Some items) ∷ ds) fs hs s shun r left anew =
         let three = elaboration_parts (declares_record x t (Some items)) ds fs hs shun in
-        let two = and_parts (not (holds_parts w.p.types t)) (list_all (item_shuns w.p.types w.shuns w.apart (variables_in w)) items) three.0 in
+        let two = and_parts (may_fill w.p.types w.apart t) (list_all (item_shuns w.p.types w.shuns w.apart (variables_in w)) items) three.0 in
         let more : InMasters w.apart w.lower (frame.Elaborates ds fs hs) w.upper (λ (ns : List Master). LeftIn w ns s.control) =
         own_in w.apart w.lower (frame.Elaborates ds fs hs) w.upper (λ (ns : List Master). LeftIn w ns s.control) refl left in
         let declared =

@@ -10,7 +10,7 @@ use Rattle.ada_program.specs.Form.{PathForm, RecordPathForm, ActualForm, in_valu
 use Rattle.ada_program.specs.declared.program.VariableKind.{VariableKind}
 use Rattle.ada_program.specs.declared.program.VariableKind.TheVariants as variable
 use Rattle.ada_program.specs.ProgramForm.{TypeForm, VariableForm, BodyForm, type_form}
-use Rattle.ada_program.specs.WellFormed.{finalization_of, path_kind, selected_kind, variable_kind}
+use Rattle.ada_program.specs.WellFormed.{finalization_of, object_named, path_kind, selected_kind, variable_kind}
 use Rattle.ada_quiet.specs.Bare.{has_bare_objects}
 use Rattle.ada_quiet.specs.Idle.{holds_parts}
 use Rattle.ada_reaching.specs.Apart.{Apart}
@@ -44,9 +44,19 @@ may_start types apart access = has_bare_objects types access || apart.starts acc
 abbrev pub may_declare : Apart → (object_type : ℕ) → Bool
 may_declare apart t = apart.starts t && apart.ends t
 
--- A record object may have been declared so, or has no controlled parts (7.6): then nothing is to be done for it, whatever it got at first.
+-- If there is a record type, its records may be assigned to as wholes, also those with controlled parts.
+abbrev pub may_assign_named : Apart → (record_type : Option ℕ) → Bool
+may_assign_named apart None = false
+may_assign_named apart (Some t) = apart.assigns t
+
+-- A record object may be declared with an initial value (3.3.1): it has no controlled parts, or its type is one whose records may be assigned to as wholes, since
+-- it is adjusted as these are (7.6), and it is finalized where its master is left (7.6.1).
+abbrev pub may_fill : List TypeForm → Apart → (object_type : ℕ) → Bool
+may_fill types apart t = not (holds_parts types t) || (apart.ends t && may_assign_named apart (object_named types (Some t)))
+
+-- A record object may have been declared by default, or with an initial value: it may be finalized where its master is left, or has no controlled parts (7.6).
 abbrev pub may_own : Apart → (object_type : ℕ) → Bool
-may_own apart t = may_declare apart t || not (holds_parts (map type_form apart.definitions) t)
+may_own apart t = apart.ends t || not (holds_parts (map type_form apart.definitions) t)
 
 -- Selectors follow no value that is shunned: each follows the value in front of it, and the last value is not followed (4.1.3).
 abbrev pub selectors_shun : List TypeForm → (shuns : ℕ → Bool) → Option VariableKind → (selectors : List ℕ) → Bool
@@ -110,14 +120,14 @@ module _ (types : List TypeForm) (shuns : ℕ → Bool) (apart : Apart) (variabl
   actual_shuns (in_out_component path) = path_shuns path
   actual_shuns (in_out_record q) = record_path_shuns q
 
-  -- A declaration is that of a variable, of whatever type (3.3.1); of a record object by default, of a type of which some may be declared; or of one without
-  -- controlled parts, and the items of its initial value follow no such value (4.3.1, 7.6).
+  -- A declaration is that of a variable, of whatever type (3.3.1); of a record object by default, of a type of which some may be declared; or of one
+  -- that may get an initial value, whose items follow no such value (4.3.1, 7.6).
   abbrev pub declaration_shuns : DeclarationForm → Bool
   declaration_shuns (creates_pool p) = false
   declaration_shuns (collects access) = false
   declaration_shuns (declares x right) = right_shuns right
   declaration_shuns (declares_record x t None) = may_declare apart t
-  declaration_shuns (declares_record x t (Some items)) = not (holds_parts types t) && list_all item_shuns items
+  declaration_shuns (declares_record x t (Some items)) = may_fill types apart t && list_all item_shuns items
 
   -- So is each of these.
   abbrev pub declarations_shun : List DeclarationForm → Bool

@@ -7,7 +7,6 @@ use Rattle.std.specs.List.{list_all, slice_get}
 use Rattle.ada_program.specs.declared.program.VariableKind.TheVariants as variable
 use Rattle.ada_program.specs.ProgramForm.{TypeForm, VariableForm, BodyForm, ProgramForm, seen_in}
 use Rattle.ada_program.specs.WellFormed.{is_access, selected_kind, selectors_kind, value_access}
-use Rattle.ada_quiet.specs.Idle.{holds_parts}
 use Rattle.ada_meaning.specs.declared.state.Id.{Id}
 use Rattle.ada_meaning.specs.declared.state.Mode.{Mode}
 use Rattle.ada_meaning.specs.declared.state.Mode.TheVariants.{Running, Raising, Exiting, Returning}
@@ -27,7 +26,7 @@ use Rattle.ada_meaning.specs.Step.{operands_of, older, places_of, procedure_of}
 use Rattle.ada_meaning.specs.Named.{Object, State, object_at}
 use Rattle.ada_untouched.specs.Untouched.{IsInSight}
 use Rattle.ada_reaching.specs.Apart.{Apart, AreBegunIn, AreUndoneIn, IsBegunIn, IsLeftIn, IsLeftOf}
-use Rattle.ada_reaching.specs.Forms.{may_own, may_follow, may_end, may_start, selectors_shun, record_path_shuns, path_shuns, expression_shuns, links_shun, condition_shuns, item_shuns, right_shuns, declarations_shun, statements_shun, branches_shun, handlers_shun, body_shuns}
+use Rattle.ada_reaching.specs.Forms.{may_fill, may_own, may_follow, may_end, may_start, selectors_shun, record_path_shuns, path_shuns, expression_shuns, links_shun, condition_shuns, item_shuns, right_shuns, declarations_shun, statements_shun, branches_shun, handlers_shun, body_shuns}
 
 -- An object is there, and is of an access type that is shunned (3.10).
 pub record IsOfShunned (types : List TypeForm) (shuns : ℕ → Bool) (found : Option Object) : Type 0 where
@@ -181,7 +180,7 @@ module _ (types : List TypeForm) (shuns : ℕ → Bool) (apart : Apart) (bodies 
   FrameShuns (frame.TargetsRecord c t items) = list_all (item_shuns types shuns apart variables) items ≡ true
   FrameShuns (frame.StoresRecord v c count) = IsInSight ghosts v
   FrameShuns (frame.Assigns t) = apart.assigns t ≡ true
-  FrameShuns (frame.DeclaresRecord x t) = not (holds_parts types t) ≡ true
+  FrameShuns (frame.DeclaresRecord x t) = may_fill types apart t ≡ true
   FrameShuns (frame.Treats v treatment tasks) = IsInSight ghosts v × TreatsApart apart treatment tasks
   FrameShuns (frame.Awaits v by done of part tasks) = IsInSight ghosts v × AwaitsApart apart by done of part tasks
   FrameShuns (frame.Ends v) = IsInSight ghosts v

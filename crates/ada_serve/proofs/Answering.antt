@@ -49,6 +49,7 @@ first_cut kept all (verdict.Text (text.IdentifierForm spot)) long longer f = abs
 first_cut kept all (verdict.Text text.NoMemory) long longer f = tt
 first_cut kept all (verdict.Syntax fault) long longer f = absurd (long f.1.limit)
 first_cut kept all (verdict.Names fault) long longer f = absurd (long f.1.spelled.limit)
+first_cut kept all (verdict.EarlyRound spot) long longer f = absurd (long f.1.spelled.limit)
 first_cut kept all (verdict.Rounds fault) long longer f = absurd (long f.1.text.spelled.limit)
 first_cut kept all (verdict.Operations fault) long longer f = absurd (long f.1.text.spelled.limit)
 first_cut kept all (verdict.Unused fault) long longer f = absurd (long f.1.text.spelled.limit)

@@ -26,7 +26,7 @@ use Rattle.ada_quiet.specs.Apart.{is_tracker}
 use Rattle.ada_judged.specs.Fitting.{TracksComponents}
 use Rattle.ada_judged.specs.Obeying.{BodyIsOrderly}
 use Rattle.ada_quiet.specs.InUse.{may_be_frugal, may_track}
-use Rattle.ada_quiet.specs.Calm.{are_calmly_copied_in}
+use Rattle.ada_quiet.specs.Calm.{are_calmly_copied_in, calmly_copied_types}
 use Rattle.ada_beside.specs.Confined.{IsConfined}
 use Rattle.ada_beside.specs.Law.{LieBeside}
 use Rattle.ada_finalized.specs.Law.{NothingBegins}
@@ -44,7 +44,7 @@ use Rattle.ada_sound.proofs.Judged.{known_judged}
 use Rattle.ada_sound.proofs.Operating.{IsCalm, WaitsFor}
 use Rattle.ada_sound.proofs.Allowance.{simple_allowance}
 use Rattle.ada_sound.proofs.Touching.{Paused, resting}
-use Rattle.ada_sound.proofs.WatchedBy.{hold_bare}
+use Rattle.ada_sound.proofs.WatchedBy.{hold_calm}
 use Rattle.ada_sound.specs.Agreement.{running_procedure}
 
 -- A copy of a record is adjusted: an object that is declared gets its initial value so, or a record that is assigned to (3.3.1, 5.2).
@@ -64,7 +64,7 @@ pub record Adjusting (program : Program) (s : State) : Type 0 where
   pub tracker : is_tracker (program_form program) number ≡ true
   pub components : TracksComponents (program_form program).types w.tracks b.variables
   pub orderly : BodyIsOrderly w.tracks b
-  pub lone : hold_bare (program_form program).types (drop 1 b.variables) ≡ true
+  pub lone : hold_calm (program_form program).types (calmly_copied_types (program_form program)) (drop 1 b.variables) ≡ true
   -- the state that stands for this one
   pub t : State
   pub seen : Seen program.types.items (program_form program).bodies w s t

@@ -47,9 +47,9 @@ use Rattle.ada_typed.proofs.Bodies.{seen_as}
 use Rattle.ada_typed.proofs.Control as typed
 use Rattle.ada_typed.proofs.Kept.{behind_call}
 use Rattle.ada_quiet.specs.Apart.{is_tracker}
-use Rattle.ada_quiet.specs.Calm.{are_calmly_copied_in}
+use Rattle.ada_quiet.specs.Calm.{are_calmly_copied_in, calmly_copied_types}
 use Rattle.ada_sound.proofs.CallsApart.{CallApart}
-use Rattle.ada_sound.proofs.WatchedBy.{given_count, hold_bare, some_variable}
+use Rattle.ada_sound.proofs.WatchedBy.{given_count, hold_calm, some_variable}
 use Rattle.ada_sound.proofs.Activations.{called_fit}
 use Rattle.ada_sound.proofs.Adjusting.{Adjusting, IsOfCopy}
 use Rattle.ada_sound.proofs.Alters.{Alters, alters_set, alters_then}
@@ -327,7 +327,7 @@ module _ (program : Program) (number : ℕ) (b : BodyForm) (there : slice_get (p
     referred_low q t (inr other) = absurd other
 
     -- The body begins.
-    pub adjusting_begins : IsOfCopy by → tracks_of p.types number b ≡ w.tracks → is_tracker p number ≡ true → BodyIsOrderly w.tracks b → hold_bare p.types (drop 1 b.variables) ≡ true → may_track p ≡ true → are_calmly_copied_in p x.cell.access ≡ false → may_be_frugal p ≡ true → is_thrifty_body (simple_allowance p.types) false b ≡ true → FrameIsSimple w.tracks.first (Elaborates b.declarations b.statements b.handlers)
+    pub adjusting_begins : IsOfCopy by → tracks_of p.types number b ≡ w.tracks → is_tracker p number ≡ true → BodyIsOrderly w.tracks b → hold_calm p.types (calmly_copied_types p) (drop 1 b.variables) ≡ true → may_track p ≡ true → are_calmly_copied_in p x.cell.access ≡ false → may_be_frugal p ≡ true → is_thrifty_body (simple_allowance p.types) false b ≡ true → FrameIsSimple w.tracks.first (Elaborates b.declarations b.statements b.handlers)
         → ((e : Exception) → body_among (implicit_of p) (known_judged program number w.tracks []).program e ≡ true → ⊥)
         → CallApart p.types (is_tracker p) (seen_state w begun).control → RunsAsJudged → BeginsAsJudged → TypedAsJudged
         → (e : Event) (of : ℕ) → Alters s.heap e heap → WaitsFor p.types o of (begins by done) tasks k behind → Stands program gs (record s { activations = a ∷ rest }) → IsCalm (behind_call behind) → under_in (callers_of program gs) ≡ []

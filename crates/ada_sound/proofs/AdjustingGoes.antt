@@ -57,7 +57,7 @@ use Rattle.ada_sound.proofs.TracksApart.{AreInARow, tracks_apart}
 use Rattle.ada_sound.proofs.TracksWell.{copied_in_order, tracked_well}
 use Rattle.ada_sound.proofs.Trackers.{calls_stand_apart, names_none_too, order_too, stands_apart}
 use Rattle.ada_sound.proofs.CalmTypes.{components_are_calm}
-use Rattle.ada_sound.proofs.WatchedBy.{hold_bare, watched_by}
+use Rattle.ada_sound.proofs.WatchedBy.{hold_calm, watched_by}
 
 -- What a body frees as it is judged it frees by the instance for that (13.11.2).
 pub judged_owns : (p : ProgramForm) → FreesItsOwn p → (number : ℕ) (b : BodyForm) (tracks : Tracks) → slice_get p.bodies number ≡ Some b → TracksComponents p.types tracks b.variables → BodyIsOrderly tracks b
@@ -144,7 +144,7 @@ module _
       watched_by own (tables_in own (seen_fits p well (Some f.number))) (calmly_copied_types p) f.w (tracks_seen p f.number f.b f.w.tracks f.there f.components) (record s { heap = heap }) f.place x inside
       (rw f.object_so f.formal) f.based (subst (λ (q : ProgramForm). length (places s) ≡ length q.variables) here f.count)
       (rw f.object_so found) exists other_there
-      (subst (λ (types : List TypeForm). hold_bare types (drop 1 own.variables) ≡ true) (sym (same_types (Some f.number) p)) (subst (λ (q : ProgramForm). hold_bare p.types (drop 1 q.variables) ≡ true) here f.lone))
+      (subst (λ (types : List TypeForm). hold_calm types (calmly_copied_types p) (drop 1 own.variables) ≡ true) (sym (same_types (Some f.number) p)) (subst (λ (q : ProgramForm). hold_calm p.types (calmly_copied_types p) (drop 1 q.variables) ≡ true) here f.lone))
       components_there
       (subst (λ (tracks : Tracks). AreApart tracks.components) f.tracks_so (tracks_apart p.types (in_a_row p well may) f.number f.b))
 

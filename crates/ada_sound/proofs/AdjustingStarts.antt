@@ -75,7 +75,7 @@ use Rattle.ada_sound.proofs.Trackers.{calls_stand_apart, frugal_too, names_none_
 use Rattle.ada_sound.proofs.TracksApart.{tracks_apart}
 use Rattle.ada_sound.proofs.Treatments.{BeginsAdjust}
 use Rattle.ada_sound.proofs.TypedAside.{typed_aside}
-use Rattle.ada_sound.proofs.WatchedBy.{given_count, hold_bare, some_variable, watched_by}
+use Rattle.ada_sound.proofs.WatchedBy.{given_count, hold_calm, some_variable, watched_by}
 use Rattle.ada_tracked.proofs.Heaps.{blanked_here}
 use Rattle.ada_tracked.specs.Frames.{View, blank_object, watched, blanked}
 use Rattle.ada_tracked.specs.Seen.{IsWatched, seen_state}
@@ -179,11 +179,11 @@ module _
     may : may_be_frugal p ≡ true
     may = frugal_too p tracks.0
 
-    simple_so : is_simple_body p.types true c.b ≡ true
-    simple_so = simple_with p.types (adjusts_alone p) c.b tracks.1
+    simple_so : is_simple_body p.types (calmly_copied_types p) true c.b ≡ true
+    simple_so = simple_with p.types (adjusts_alone p) (calmly_copied_types p) c.b tracks.1
 
     thrifty : is_thrifty_body (simple_allowance p.types) false c.b ≡ true
-    thrifty = simple_thrifty (simple_allowance p.types) c.b simple_so
+    thrifty = simple_thrifty (calmly_copied_types p) (simple_allowance p.types) c.b simple_so
 
     -- What the waiting activation sees, and the body.
     known_types : (known_in program a.procedure gs).program.types ≡ p.types
@@ -220,8 +220,8 @@ module _
         let body : operation.body ≡ c.b = let found = operation.there in let there = c.there in cc (found, there) in
         alone c.b operation.object (rw body at operation.formals)
 
-    none_other : hold_bare p.types (drop 1 c.b.variables) ≡ true
-    none_other = lone_body p.types c.b simple_so
+    none_other : hold_calm p.types (calmly_copied_types p) (drop 1 c.b.variables) ≡ true
+    none_other = lone_body p.types (calmly_copied_types p) c.b simple_so
 
     -- Each variable has a value.
     count : length (places begun) ≡ length c.b.variables
@@ -257,7 +257,7 @@ module _
         watched_by own (tables_in own (seen_fits p well (Some c.number))) (calmly_copied_types p) w own_components begun place aside inside refl refl
         (subst (λ (q : ProgramForm). length (places begun) ≡ length q.variables) here count) found exists
         (subst (λ (types : List TypeForm). has_calm_objects types (calmly_copied_types p) x.cell.access ≡ false) (sym types) sees_to)
-        (subst (λ (types : List TypeForm). hold_bare types (drop 1 own.variables) ≡ true) (sym types) (subst (λ (q : ProgramForm). hold_bare p.types (drop 1 q.variables) ≡ true) here none_other))
+        (subst (λ (types : List TypeForm). hold_calm types (calmly_copied_types p) (drop 1 own.variables) ≡ true) (sym types) (subst (λ (q : ProgramForm). hold_calm p.types (calmly_copied_types p) (drop 1 q.variables) ≡ true) here none_other))
         (subst
         (λ (types : List TypeForm). (holder component access : ℕ) → access_of (kind_among (reached_components types holder) component) ≡ Some access → has_calm_objects types (calmly_copied_types p) access ≡ true)
         (sym types) (components_are_calm p.types (calmly_copied_types p) (names_none_too p tracks.0)))
@@ -318,7 +318,7 @@ module _
         by : (alone_there : Bool) → adjusts_alone p ≡ alone_there → LeavesAlone w owners real
         by true is = inl (alone_left program well x.cell.access r c.of c.part c.tasks left (one_part is))
         by false is =
-            let forms = confined_body p well c.number c.b c.there w.tracks components (subst (λ (free : Bool). is_simple_body p.types free c.b ≡ true) is tracks.1) in
+            let forms = confined_body p well c.number c.b c.there w.tracks components (subst (λ (free : Bool). is_simple_body p.types (calmly_copied_types p) free c.b ≡ true) is tracks.1) in
             inr (reaches_record p.types components.object, beside_record, record { control = ((forms.declarations, forms.statements, forms.handlers), tt); operands = tt })
 
     -- So it begins.

@@ -59,7 +59,7 @@ use Rattle.ada_sound.proofs.Leavings.{AreInOrder, HeldIn, NamedBelow}
 use Rattle.ada_sound.proofs.Operating.{InBody, StepsTo}
 use Rattle.ada_sound.proofs.Returns.{same_types}
 use Rattle.ada_sound.proofs.Allowance.{simple_allowance}
-use Rattle.ada_sound.proofs.InsideRecords.{record_inside}
+use Rattle.ada_sound.proofs.InsideRecords.{object_inside, record_inside}
 use Rattle.ada_sound.proofs.FrugalFrees.{bare_by, frees_bare, records_bare_by}
 use Rattle.ada_sound.proofs.Standing.{AllStand, FinalizesBy, FinalizesIn, FreesAmong}
 use Rattle.ada_sound.proofs.Steps as inside
@@ -220,7 +220,7 @@ module _
 
   frugal_on : GoesFrugally (simple_allowance p.types) f.lower f.behind [] (next tds bodies f.t)
   frugal_on =
-      frugal_steps known.program judged.owns tds bodies (simple_allowance p.types) (bare_by program) (records_bare_by program) (record_inside program) (λ number b there told. absurd (cc told)) (λ objects. absurd (cc objects)) f.behind [] f.lower f.t f.frugal
+      frugal_steps known.program judged.owns tds bodies (simple_allowance p.types) (bare_by program) (records_bare_by program) (record_inside program, object_inside program) (λ number b there told. absurd (cc told)) (λ objects. absurd (cc objects)) f.behind [] f.lower f.t f.frugal
       (λ actuals references k is. absurd (let first = firsts.0 in cc (rw is at first))) (λ runs. treats_none (simple_allowance p.types) refl refl f.behind [] f.t.mode f.t.control f.frugal.upper f.frugal.frugally) f.typed
       bare_types (λ runs. freely) (λ treats_parts runs first. absurd (cc treats_parts)) (λ objects. absurd (cc objects)) (λ objects runs. absurd (cc objects))
 

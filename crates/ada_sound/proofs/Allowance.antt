@@ -1,20 +1,20 @@
 -- Frugal bodies (7.6, 4.8, 13.11.2) that free no objects with controlled parts, or may do so, and that create none and declare no record objects, or may do so,
 -- as what is proved of them tells them apart. The body of an operation itself may assign to inert records as wholes (5.2).
 
-use Rattle.std.proofs.Common.{◌≡◌, ℕ, Bool, true, false, ◌&&◌, ◌||◌, List, refl, sym, ◌∙◌, [], ◌∷◌}
+use Rattle.std.proofs.Common.{◌≡◌, ℕ, Bool, true, false, ◌&&◌, ◌||◌, List, Option, refl, sym, ◌∙◌, [], ◌∷◌, inl, inr}
 use Rattle.std.specs.Prelude.{not, is_some, if◌then◌else◌, Some, None}
 use Rattle.std.specs.List.{list_all, slice_index_or}
-use Rattle.std.proofs.lemmas.Bool.{and_from, and_parts, or_left}
+use Rattle.std.proofs.lemmas.Bool.{and_from, and_parts, or_cases, or_left, or_right}
 use Rattle.ada_effects.specs.Effects.{record_path_raises}
 use Rattle.ada_program.specs.Form.{RecordPathForm, ItemForm, RightForm, nothing, value_of, allocates, allocates_default, computes, DeclarationForm, creates_pool, collects, declares, declares_record, StmtForm, skips, assigns, assigns_record, frees, gets, writes, writes_text, chooses, repeats, counts, exits, calls, returns, raises, encloses, StmtsForm, no_stmts, a_stmt, BranchesForm, otherwise, a_branch, HandlersForm, no_handlers, a_handler}
 use Rattle.ada_program.specs.Nested.{collected, record_nests}
 use Rattle.ada_program.specs.ProgramForm.{TypeForm, BodyForm, ProgramForm}
-use Rattle.ada_program.specs.WellFormed.{finalization_of}
+use Rattle.ada_program.specs.WellFormed.{finalization_of, object_named}
 use Rattle.ada_quiet.specs.Apart.{is_bare_item}
 use Rattle.ada_quiet.specs.Bare.{has_bare_objects}
 use Rattle.ada_quiet.specs.Calm.{inert_types, is_known_calm}
 use Rattle.ada_quiet.specs.Idle.{holds_parts}
-use Rattle.ada_quiet.specs.Frugal.{allocates_frugally, is_bare_initial, is_frugal_declaration, are_frugal_declarations, frugal_procedures, is_frugal_stmt, are_frugal, are_frugal_branches, are_frugal_handlers, is_frugal_body, Thrift, assigns_at_hand, thrift_of}
+use Rattle.ada_quiet.specs.Frugal.{allocates_frugally, is_bare_initial, is_inert_named as frugal_named, is_inert_initial, is_frugal_declaration, are_frugal_declarations, frugal_procedures, is_frugal_stmt, are_frugal, are_frugal_branches, are_frugal_handlers, is_frugal_body, Thrift, assigns_at_hand, thrift_of}
 
 -- What such bodies go by: as frugal ones do, whether they may free objects with controlled parts, and whether they may allocate some and declare record
 -- objects.
@@ -49,9 +49,18 @@ allocates_thriftily allowance (allocates access items) = has_bare_objects allowa
 allocates_thriftily allowance (allocates_default access) = may_create allowance access
 allocates_thriftily allowance (computes e) = true
 
--- Or declare a record object with an initial value (3.3.1): one without controlled parts, where it may declare some.
+-- If there is a record type, it is known of it.
+abbrev pub is_inert_named : Allowance → (record_type : Option ℕ) → Bool
+is_inert_named allowance None = false
+is_inert_named allowance (Some t) = is_inert allowance t
+
+abbrev pub fills_parts : Allowance → (object_type : ℕ) → Bool
+fills_parts allowance t =
+    not (holds_parts allowance.types t) || (allowance.treats_parts && is_inert_named allowance (object_named allowance.types (Some t)))
+
+-- Or declare a record object with an initial value (3.3.1): one without controlled parts, where it may declare some, or an inert one, where it may treat parts.
 abbrev pub may_fill : Allowance → (object_type : ℕ) → Bool
-may_fill allowance t = allowance.objects && not (holds_parts allowance.types t)
+may_fill allowance t = allowance.objects && fills_parts allowance t
 
 -- So it is with what a variable is given at first (3.3.1), and nothing but variables is declared, unless record objects may be.
 abbrev pub is_thrifty_declaration : Allowance → DeclarationForm → Bool
@@ -124,14 +133,27 @@ module _ (p : ProgramForm) (own : Bool) where
   right_thrifty (allocates_default access) is = refl
   right_thrifty (computes e) is = refl
 
+  named_thrifty : (o : Option ℕ) → frugal_named judged o ≡ true → is_inert_named (allowance_of p) o ≡ true
+  named_thrifty None is = is
+  named_thrifty (Some t) is = is
+
+  initial_thrifty : (t : ℕ) (items : List ItemForm) → (is_bare_initial p.types t items || is_inert_initial judged t) ≡ true → may_fill (allowance_of p) t ≡ true
+  initial_thrifty t items is =
+      let bare = not (holds_parts p.types t) in
+      let inert = is_inert_named (allowance_of p) (object_named p.types (Some t)) in
+      elim (or_cases (is_bare_initial p.types t items) (is_inert_initial judged t) is) [
+        | inl bare_so ↦ or_left bare inert (and_parts bare (list_all (is_bare_item p.types) items) bare_so).0
+        | inr inert_so ↦ or_right bare inert (named_thrifty (object_named p.types (Some t)) inert_so)
+      ]
+
   declaration_thrifty : (d : DeclarationForm) → is_frugal_declaration judged d ≡ true → is_thrifty_declaration (allowance_of p) d ≡ true
   declaration_thrifty (creates_pool pool) is = is
   declaration_thrifty (collects access) is = is
   declaration_thrifty (declares x right) is = right_thrifty right is
   declaration_thrifty (declares_record x t None) is = refl
   declaration_thrifty (declares_record x t (Some items)) is =
-      let bare = and_parts (record_nests p.types (collected p.declarations) t) (is_bare_initial p.types t items) is in
-      (and_parts (not (holds_parts p.types t)) (list_all (is_bare_item p.types) items) bare.1).0
+      let filled = is_bare_initial p.types t items || is_inert_initial judged t in
+      initial_thrifty t items (and_parts (record_nests p.types (collected p.declarations) t) filled is).1
 
   declarations_thrifty : (ds : List DeclarationForm) → are_frugal_declarations judged ds ≡ true → are_thrifty_declarations (allowance_of p) ds ≡ true
   declarations_thrifty [] is = refl

@@ -49,7 +49,6 @@ use Rattle.ada_sound.proofs.FrugalUseEnds.{ends_free, starts_free}
 use Rattle.ada_sound.proofs.InsideRecords.{Inside, itself, within}
 use Rattle.ada_sound.proofs.Invariant.{Control, IsOfCopied, IsOfAssigned}
 use Rattle.ada_sound.proofs.Operating.{IsCalled}
-use Rattle.ada_sound.proofs.QuietOperations.{MayTouch}
 use Rattle.ada_sound.proofs.Touching.{ended_frees, treated_frees}
 use Rattle.ada_typed.proofs.Lying.{IsOperable}
 
@@ -223,9 +222,16 @@ ended_frees_of program well access of part number b operable (Assigning n) (Copi
 ended_frees_of program well access of part number b operable (Assigning n) (g ∷ behind) inside copied called there t covered = refl
 ended_frees_of program well access of part number b operable (Undoing n) behind inside copied called there t covered = ends_free program well access of part number b operable called there t covered
 
+-- Something is initialized or finalized, and not adjusted.
+abbrev pub IsStartOrEnd : Treatment → Type 0
+IsStartOrEnd (begins Creation done) = Unit {0}
+IsStartOrEnd (begins Copy done) = ⊥
+IsStartOrEnd (begins (Adjustment n) done) = ⊥
+IsStartOrEnd (finalizes cause) = Unit {0}
+
 pub treated_frees_of : (program : Program) → IsWellFormed (program_form program) → (access of part number : ℕ) (b : BodyForm) → IsOperable (program_form program).types access of part
     → (treatment : Treatment) (behind : Control) → IsOfAssigned (program_form program).types treatment (performs of 0 ∷ []) behind → IsAssignedBehind (program_form program).types treatment behind
-    → MayTouch treatment → IsCalled (operations_of program.types.items of) treatment number → slice_get (body_forms program) number ≡ Some b
+    → IsStartOrEnd treatment → IsCalled (operations_of program.types.items of) treatment number → slice_get (body_forms program) number ≡ Some b
     → (t : ℕ) → CoveredIn (implicit_of (program_form program)) (seen_in (Some number) (program_form program)) t
     → treated_frees (implicit_of (program_form program)) treatment access behind t ≡ true
 treated_frees_of program well access of part number b operable (begins Creation done) behind inside copied may called there t covered = starts_free program well access of part number b operable called there t covered

@@ -4,7 +4,7 @@
 use Rattle.std.proofs.Common.{◌≡◌, ℕ, zero, Bool, true, false, List, ◌∷◌, ◌++◌, ◌⊎◌, refl, subst, inl, inr, []}
 use Rattle.std.specs.Prelude.{Option, Some, None}
 use Rattle.ada_flow.specs.Flow.{Holds, hold_at}
-use Rattle.ada_meaning.specs.declared.event.Birth.{Birth}
+use Rattle.ada_meaning.specs.declared.event.Birth.TheVariants.{Creation}
 use Rattle.ada_meaning.specs.declared.state.Id.{Id}
 use Rattle.ada_meaning.specs.declared.state.Value.{Value}
 use Rattle.ada_meaning.specs.declared.state.Value.TheVariants.{Names}
@@ -34,11 +34,11 @@ held_owned true o access others is = (zero, zero, tt, refl)
 
 -- So an activation owns the object that waits for the Initialize of it, with what is held for that.
 pub begun_owned :
-    (known : Known) (by : Birth) (done : List parts.Part) (held : Bool) (watch : Option Watch) (object : Id) (access : ℕ) (home : Home) (places operands : List Value)
+    (known : Known) (done : List parts.Part) (held : Bool) (watch : Option Watch) (object : Id) (access : ℕ) (home : Home) (places operands : List Value)
     (also : List Reference) (after : Control) (lower : List Master) (rooms : Rooms) (holds : Holds) (variables : List VariableForm) (others : List Outer)
-    → Rests known (begins by done) held watch object access home places operands also after lower rooms holds
+    → Rests known (begins Creation done) held watch object access home places operands also after lower rooms holds
     → IsOwnedAmong (record { variables = variables; places = places; holds = holds } ∷ held_first (holder_if held object access) others) object
-begun_owned known by done held watch object access home places operands also after lower rooms holds variables others (birth, inl (none, starting)) =
+begun_owned known done held watch object access home places operands also after lower rooms holds variables others (inl (none, starting)) =
     owned_by starting.owner
   where
     waiting : Outer
@@ -48,7 +48,7 @@ begun_owned known by done held watch object access home places operands also aft
         → IsOwnedAmong (waiting ∷ held_first (holder_if held object access) others) object
     owned_by (inl is) = owned_deeper waiting (held_first (holder_if held object access) others) object (held_owned held object access others is)
     owned_by (inr owner) = owned_here waiting (held_first (holder_if held object access) others) starting.x object owner.0 owner.1
-begun_owned known by done held watch object access home places operands also after lower rooms holds variables others (birth, inr naming) =
+begun_owned known done held watch object access home places operands also after lower rooms holds variables others (inr naming) =
     owned_deeper (record { variables = variables; places = places; holds = holds }) (held_first (holder_if held object access) others) object
     (held_owned held object access others naming.is_held)
 
@@ -67,10 +67,10 @@ module _ (program : Program) where
   owned_further (g ∷ inner) others o owned = owned_behind g (inner ++ others) o (owned_further inner others o owned)
 
   -- The object that is initialized is owned outside of the body that runs, in front of whatever waits.
-  pub begun_outside : (depth : ℕ) (s : State) (f : Pause program depth s) (by : Birth) (done : List parts.Part) → f.treatment ≡ begins by done → (others : List Suspension)
+  pub begun_outside : (depth : ℕ) (s : State) (f : Pause program depth s) (done : List parts.Part) → f.treatment ≡ begins Creation done → (others : List Suspension)
       → IsOwnedAmong (outer_in (callers_of program (origin program depth s f ∷ others))) f.object
-  begun_outside depth s f by done is others =
+  begun_outside depth s f done is others =
       let known = known_in program f.procedure f.suspensions in
-      begun_owned known by done f.held f.watch f.object f.access f.home f.places f.operands f.also f.after f.lower f.rooms f.holds known.program.variables
+      begun_owned known done f.held f.watch f.object f.access f.home f.places f.operands f.also f.after f.lower f.rooms f.holds known.program.variables
       (outer_in (callers_of program others))
       (subst (λ (treatment : Treatment). Rests known treatment f.held f.watch f.object f.access f.home f.places f.operands f.also f.after f.lower f.rooms f.holds) is f.rests)

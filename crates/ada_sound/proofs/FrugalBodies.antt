@@ -1,7 +1,7 @@
 -- A frugal body (7.6, 7.6.1, 13.11.2) creates no collection, and what the record objects name that it declares lies in collections of the main procedure
 -- (3.8, 3.10.2); so it is with those that it calls (6.4): it nests wherever it is called while these are open.
 
-use Rattle.std.proofs.Common.{◌≡◌, ℕ, zero, suc, ◌==◌, Bool, true, false, ◌&&◌, List, [], ◌∷◌, ◌++◌, refl}
+use Rattle.std.proofs.Common.{◌≡◌, ℕ, zero, suc, ◌==◌, Bool, true, false, ◌&&◌, ◌||◌, List, [], ◌∷◌, ◌++◌, refl}
 use Rattle.std.specs.List.{list_all, slice_get, slice_index_or}
 use Rattle.std.specs.Prelude.{Option, Some, None}
 use Rattle.std.proofs.lemmas.Bool.{and_from, and_parts, or_right}
@@ -12,7 +12,7 @@ use Rattle.ada_program.specs.Nested.{Callees, collected, record_objects, is_one_
 use Rattle.ada_program.specs.ProgramForm.{TypeForm, BodyForm, ProgramForm}
 use Rattle.ada_program.specs.WellFormed.{reached_components}
 use Rattle.ada_quiet.specs.Calm.{inert_types}
-use Rattle.ada_quiet.specs.Frugal.{allocates_frugally, is_bare_initial, is_frugal_declaration, are_frugal_declarations, is_frugal_stmt, are_frugal, are_frugal_branches, are_frugal_handlers, is_frugal_body, Thrift, frugal_from, frugal_procedures}
+use Rattle.ada_quiet.specs.Frugal.{allocates_frugally, is_bare_initial, is_inert_initial, is_frugal_declaration, are_frugal_declarations, is_frugal_stmt, are_frugal, are_frugal_branches, are_frugal_handlers, is_frugal_body, Thrift, frugal_from, frugal_procedures}
 
 -- All these collections are open.
 abbrev pub HasAll : (opened around : List ℕ) → Type 0
@@ -64,8 +64,9 @@ records_open frugal there all (declares_record x t None ∷ ds) is =
     and_from (record_nests frugal.types there t) (list_all (record_nests frugal.types there) (record_objects ds))
     (known_more frugal.outermost there all (reached_components frugal.types t) both.0) (records_open frugal there all ds both.1)
 records_open frugal there all (declares_record x t (Some items) ∷ ds) is =
-    let both = and_parts (record_nests frugal.types frugal.outermost t && is_bare_initial frugal.types t items) (are_frugal_declarations frugal ds) is in
-    let nests = and_parts (record_nests frugal.types frugal.outermost t) (is_bare_initial frugal.types t items) both.0 in
+    let filled = is_bare_initial frugal.types t items || is_inert_initial frugal t in
+    let both = and_parts (record_nests frugal.types frugal.outermost t && filled) (are_frugal_declarations frugal ds) is in
+    let nests = and_parts (record_nests frugal.types frugal.outermost t) filled both.0 in
     and_from (record_nests frugal.types there t) (list_all (record_nests frugal.types there) (record_objects ds))
     (known_more frugal.outermost there all (reached_components frugal.types t) nests.0) (records_open frugal there all ds both.1)
 

@@ -4,10 +4,11 @@
 -- The body of an operation itself may assign to inert records (5.2): these alone are adjusted.
 
 use Rattle.std.proofs.Common.{◌≡◌, ℕ, suc, ◌≤◌, Bool, true, false, ◌&&◌, List, [], ◌∷◌, ◌++◌, length, refl, sym, ap, subst, ◌⊎◌, inl, inr, arith}
-use Rattle.std.specs.Prelude.{◌||◌}
+use Rattle.std.specs.Prelude.{◌||◌, Some}
 use Rattle.std.proofs.lemmas.Bool.{and_parts}
 use Rattle.ada_program.specs.declared.program.TypeDefinition.{TypeDefinition}
 use Rattle.ada_program.specs.Form.{ActualForm}
+use Rattle.ada_program.specs.WellFormed.{object_named}
 use Rattle.ada_finalized.specs.Law.{NoOperationRunsOn, finalized_before, waits_for_operation}
 use Rattle.ada_program.specs.ProgramForm.{BodyForm, ProgramForm}
 use Rattle.ada_meaning.specs.declared.state.Value.{Value}
@@ -20,7 +21,7 @@ use Rattle.ada_meaning.specs.declared.event.Cause.TheVariants.{Leaving, Freeing,
 use Rattle.ada_meaning.specs.Frame.{Frame, is_return, Elaborates, Does, Decides, Repeats, Turns, Ranges, Counts, Exits, Handles, Closes, Leaves, Calls, Returns, Evaluates, Computes, Follows, TestsNull, Refers, RefersIn, Opens, OpensIn, Continues, Applies, AppliesAlone, Stores, Targets, StoresIn, TargetsRecord, StoresRecord, Assigns, Receives, Fills, Copies, Creates, FreesIn, Declares, DeclaresRecord, Writes, Ends, GivesBack, Resumes, Clears, ClearsIn, Treatment, begins, ends}
 use Rattle.ada_meaning.specs.Frame as frame
 use Rattle.ada_meaning.specs.State.{Owned, declared, collection, record_object, storage_pool, Item, Master}
-use Rattle.ada_meaning.specs.Step.{operating, record_tasks, treating, halts, moves, tells, asks, picks}
+use Rattle.ada_meaning.specs.Step.{all_tasks, operating, record_tasks, treating, halts, moves, tells, asks, picks}
 use Rattle.ada_meaning.specs.Named.{State, Next, named}
 use Rattle.ada_parts.specs.declared.tasks.Direction.{Direction}
 use Rattle.ada_parts.specs.Task.{Task}
@@ -87,10 +88,10 @@ pub own_treating : (v : Value) (treatment : Treatment) (tasks : List Task) (k : 
 own_treating v treatment [] k = refl
 own_treating v treatment (task ∷ tasks) k = refl
 
--- A part of a record is adjusted (7.6).
+-- A part of a record is adjusted (7.6): one is assigned to, or a record object gets its initial value.
 abbrev pub IsAdjusted : Birth → Type 0
 IsAdjusted Creation = ⊥
-IsAdjusted Copy = ⊥
+IsAdjusted Copy = Unit {0}
 IsAdjusted (Adjustment number) = Unit {0}
 
 -- One is finalized that is assigned to (5.2).
@@ -114,9 +115,11 @@ AreInert frugal tasks = (t : ℕ) × (is_inert frugal t ≡ true) × TasksInside
 abbrev pub AssignsThere : Allowance → (tasks : List Task) → Control → Type 0
 AssignsThere frugal tasks k = (frugal.treats_parts ≡ true) × (own_in k ≡ true) × AreInert frugal tasks
 
--- All that is to be done for a record of a type is of such a record.
+-- All that is to be done for a record of a type is of such a record, and so is what is to be done for an object that is known by one.
 abbrev pub RecordIsInside : Allowance → List TypeDefinition → Type 0
-RecordIsInside frugal tds = (t : ℕ) (direction : Direction) (first : ℕ) → TasksInside frugal.types t (record_tasks tds t direction first)
+RecordIsInside frugal tds =
+    ((t : ℕ) (direction : Direction) (first : ℕ) → TasksInside frugal.types t (record_tasks tds t direction first))
+    × ((t r : ℕ) (direction : Direction) → object_named frugal.types (Some t) ≡ Some r → TasksInside frugal.types r (all_tasks tds t direction))
 
 -- What it takes to assign to one.
 pub assigned_parts : (frugal : Allowance) (own : Bool) (t : ℕ) → may_assign frugal own t ≡ true
@@ -131,9 +134,18 @@ pub assigned_with : (parts bare may : Bool) → (bare ≡ true → parts ≡ fal
 assigned_with parts true may none is parted = absurd (let bare = none refl in cc (bare, parted))
 assigned_with parts false may none is parted = is
 
--- That is adjusted behind it (7.6),
-abbrev pub AdjustsThere : Allowance → Birth → (tasks : List Task) → Control → Type 0
-AdjustsThere frugal by tasks k = IsAdjusted by × AssignsThere frugal tasks k
+-- No operation runs of a record object that gets its initial value (3.3.1).
+abbrev pub IsAlone : Value → Birth → Control → Type 0
+IsAlone v Creation k = Unit {0}
+IsAlone v Copy k = NoOperationRunsOn v k
+IsAlone v (Adjustment number) k = Unit {0}
+
+abbrev pub InertThere : Allowance → Value → Birth → (tasks : List Task) → Control → Type 0
+InertThere frugal v by tasks k = (frugal.treats_parts ≡ true) × AreInert frugal tasks × IsAlone v by k
+
+-- That is adjusted behind it (7.6), and so is an inert record object that gets its initial value,
+abbrev pub AdjustsThere : Allowance → Value → Birth → (tasks : List Task) → Control → Type 0
+AdjustsThere frugal v by tasks k = IsAdjusted by × InertThere frugal v by tasks k
 
 -- and finalized before another one is copied to it.
 abbrev pub EndsAssigned : Allowance → Cause → (tasks : List Task) → Control → Type 0
@@ -289,7 +301,7 @@ module _ (frugal : Allowance) where
   abbrev pub FrugalBegins : (behind : Control) → (among : List Value) → Control → List Master → Type 0
   FrugalBegins behind among [] ms = ⊥
   FrugalBegins behind among (frame.Treats v (begins by done) tasks ∷ k) ms =
-      (BeginsThere frugal v by k ⊎ AdjustsThere frugal by tasks k) × FrugalLeads behind among k ms
+      (BeginsThere frugal v by k ⊎ AdjustsThere frugal v by tasks k) × FrugalLeads behind among k ms
   FrugalBegins behind among (frame.Treats v (ends cause) tasks ∷ k) ms = EndsAssigned frugal cause tasks k × FrugalBegins behind among k ms
   FrugalBegins behind among (Copies first t ∷ k) ms = FrugalBegins behind among k ms
   FrugalBegins behind among (StoresRecord v first count ∷ k) ms = FrugalBegins behind among k ms ⊎ FrugalLeads behind among k ms
@@ -424,7 +436,7 @@ beginning_frugal frugal back among v by done (task ∷ tasks) k ms beginning q =
 
 -- An inert record that was assigned to is adjusted first, if anything is to be done for that.
 pub adjusting_frugal :
-    (frugal : Allowance) (back : Control) (among : List Value) (v : Value) (by : Birth) (done : List Part) (tasks : List Task) (k : Control) (ms : List Master) → AdjustsThere frugal by tasks k → FrugalLeads frugal back among k ms
+    (frugal : Allowance) (back : Control) (among : List Value) (v : Value) (by : Birth) (done : List Part) (tasks : List Task) (k : Control) (ms : List Master) → AdjustsThere frugal v by tasks k → FrugalLeads frugal back among k ms
     → Frugal frugal back among Running (treating v (begins by done) tasks k) ms
 adjusting_frugal frugal back among v by done [] k ms adjusting q = inl q
 adjusting_frugal frugal back among v by done (task ∷ tasks) k ms adjusting q = inr (inr (tt, (inr adjusting, q)))
@@ -432,7 +444,7 @@ adjusting_frugal frugal back among v by done (task ∷ tasks) k ms adjusting q =
 -- So it is where its components are stored first,
 pub storing_frugal :
     (frugal : Allowance) (back : Control) (among : List Value) (w : Value) (first count : ℕ) (v : Value) (by : Birth) (done : List Part) (tasks : List Task) (k : Control) (ms : List Master)
-    → AdjustsThere frugal by tasks k → FrugalLeads frugal back among k ms
+    → AdjustsThere frugal v by tasks k → FrugalLeads frugal back among k ms
     → FrugalBegins frugal back among (StoresRecord w first count ∷ treating v (begins by done) tasks k) ms
 storing_frugal frugal back among w first count v by done [] k ms adjusting q = inr q
 storing_frugal frugal back among w first count v by done (task ∷ tasks) k ms adjusting q = inl (inr adjusting, q)

@@ -38,15 +38,14 @@ use Rattle.ada_meaning.specs.State.{Activation, Item, Master, Owned, declared, c
 use Rattle.ada_meaning.specs.Step.{copy_next, assigning, assigns_next, record_tasks, undone, undo_next, broken_next, first_or, older, places_of, operands_of, with_operands, begun, record_holder_next, referred_next, refers_next, open_next, opened_next, opens_next, storing, returned, computing, call_next, entered, all_tasks, made, halts, moves, same_pool, raised, jumping, computed, put, owned, at, reading, component_next, follow_next, path_next, selected, named_next, before_last, last_of, holder_next, expression_next, null_test_next, is_decided, link_next, links_next, outcome_next, place_in, record_in, item_next, items_next, copied_next, copies_next, answered, new_next, right_next, freeing, freeing_next, free_next, end_next, told_back, given_back, back_next, assign_next, target_next, stored_next, store_next, record_target_next, record_stored_next, newest_ones, store_record_next, record_assign_next, has_parts, frees_next, freed_next, free_component_next, free_in_next, branches_next, decided_next, turn_next, repeats_next, turned_next, count_turn_next, counts_next, ranges_next, gets_next, received_next, receive_next, exit_next, exited_next, stmt_next, line_next, declarations_next, leave_next, master_leave_next, item_leave_next, granted, new_cell, born_next, awaited_next, taken_out, members_next, treating}
 use Rattle.ada_meaning.specs.Named.{Object, State, Next, named, whole, look, standing, created, members}
 use Rattle.ada_quiet.specs.Bare.{has_bare_objects}
-use Rattle.ada_quiet.specs.Idle.{holds_parts}
 use Rattle.ada_finalized.specs.Law.{NoOperationRunsOn}
 use Rattle.ada_owners.proofs.Objects.{next_id}
 use Rattle.ada_scopes.specs.Scopes.{is_innermost, is_number_of}
-use Rattle.ada_sound.proofs.Allowance.{Allowance, is_inert, may_assign, body_more, may_treat, allocates_thriftily, is_thrifty_declaration, are_thrifty_declarations, is_thrifty_stmt, are_thrifty, are_thrifty_branches, are_thrifty_handlers, is_thrifty_body, thrifty_parts}
+use Rattle.ada_sound.proofs.Allowance.{Allowance, fills_parts, is_inert, may_assign, body_more, may_treat, allocates_thriftily, is_thrifty_declaration, are_thrifty_declarations, is_thrifty_stmt, are_thrifty, are_thrifty_branches, are_thrifty_handlers, is_thrifty_body, thrifty_parts}
 use Rattle.ada_sound.proofs.Fits.{place_at}
 use Rattle.ada_sound.proofs.Invariant.{Control}
 use Rattle.ada_sound.proofs.OperationStarts.{apart}
-use Rattle.ada_sound.proofs.FrugalControl.{AdjustsThere, AreOwnedBy, BeginsThere, EndsAssigned, FrugalBegins, FrugalLeads, FrugalLeaves, Frugally, GoesFrugally, IsLeft, IsOwnedBy, MayLeave, RecordIsInside, adjusting_frugal, assigned_parts, assigned_with, beginning_frugal, finalizing_frugal, more_leads, own_in, own_treating, storing_frugal, treating_leads, treating_leaves, waits_first, with_variable}
+use Rattle.ada_sound.proofs.FrugalControl.{AdjustsThere, AreInert, AreOwnedBy, BeginsThere, EndsAssigned, FrugalBegins, FrugalLeads, FrugalLeaves, Frugally, GoesFrugally, IsLeft, IsOwnedBy, MayLeave, RecordIsInside, adjusting_frugal, assigned_parts, assigned_with, beginning_frugal, finalizing_frugal, more_leads, own_in, own_treating, storing_frugal, treating_leads, treating_leaves, waits_first, with_variable}
 use Rattle.ada_sound.proofs.FrugalFrees.{RecordIsBare, IsFreely, StmtIsFreely, IsNewly, LeftAlone, Unborn, past_unborn}
 use Rattle.ada_sound.proofs.Stored.{IsTaken, taken_is}
 
@@ -280,9 +279,9 @@ module _ (frugal : Allowance) (lower : List Master) (behind : Control) (among : 
       upper = ms;
       masters = refl;
       frugally = finalizing_frugal frugal behind among (named.whole target) (Assigning s.next) (record_tasks tds t WholeFirst (named.part_base target)) copied ms
-          (tt, refl, (own.0, own_copied, (t, own.2, inert t WholeFirst (named.part_base target))))
+          (tt, refl, (own.0, own_copied, (t, own.2, inert.0 t WholeFirst (named.part_base target))))
           (storing_frugal frugal behind among (named.whole target) (named.base target) (width_of tds t) (named.whole target) (Adjustment s.next) [] adjusted k ms
-          (tt, (own.0, own.1, (t, own.2, inert t PartsFirst (named.part_base target)))) q);
+          (tt, (own.0, (t, own.2, inert.0 t PartsFirst (named.part_base target)), tt)) q);
     }
       where
         own : (frugal.treats_parts ≡ true) × (own_in k ≡ true) × (is_inert frugal t ≡ true)
@@ -585,16 +584,25 @@ module _ (frugal : Allowance) (lower : List Master) (behind : Control) (among : 
     frugally = inl (more_leads frugal (record { number = height ((m ∷ ms) ++ lower); owned = declared x }) tt behind among k m ms q.1);
   }
 
-  -- A record object is there, which got what its items were: nothing is to be done for it.
-  pub record_declares_on : (ms : List Master) (x t : ℕ) (values : List Value) (all : List (Activation Value)) → (k : Control) → all_tasks tds t PartsFirst ≡ []
-      → FrugalLeads frugal behind among (DeclaresRecord x t ∷ k) ms → Goes (made named tds x t Copy values (now all k ms))
-  record_declares_on [] x t values all k none q = absurd q
-  record_declares_on (m ∷ ms) x t values all k none q = record {
+  -- A record object is there, which got what its items were: nothing is to be done for it, or it is inert, and adjusted.
+  pub record_declares_on : (ms : List Master) (x t : ℕ) (values : List Value) (all : List (Activation Value)) → (k : Control)
+      → (all_tasks tds t PartsFirst ≡ []) ⊎ ((frugal.treats_parts ≡ true) × AreInert frugal (all_tasks tds t PartsFirst))
+      → NoOperationRunsOn (created s.heap (words_of tds t)) k → FrugalLeads frugal behind among (DeclaresRecord x t ∷ k) ms → Goes (made named tds x t Copy values (now all k ms))
+  record_declares_on [] x t values all k filled alone q = absurd q
+  record_declares_on (m ∷ ms) x t values all k (inr inert) alone q = record {
+    upper = with_variable (record { number = height ((m ∷ ms) ++ lower); owned = record_object t }) m ∷ ms;
+    masters = refl;
+    frugally = adjusting_frugal frugal behind among (created s.heap (words_of tds t)) Copy [] (all_tasks tds t PartsFirst) k
+        (with_variable (record { number = height ((m ∷ ms) ++ lower); owned = record_object t }) m ∷ ms) (tt, (inert.0, inert.1, alone))
+        (more_leads frugal (record { number = height ((m ∷ ms) ++ lower); owned = record_object t })
+        (apart frugal.objects (fills_parts frugal t) q.0).0 behind among k m ms q.1);
+  }
+  record_declares_on (m ∷ ms) x t values all k (inl none) alone q = record {
     upper = with_variable (record { number = height ((m ∷ ms) ++ lower); owned = record_object t }) m ∷ ms;
     masters = refl;
     frugally =
         rw none (inl (more_leads frugal (record { number = height ((m ∷ ms) ++ lower); owned = record_object t })
-        (apart frugal.objects (not (holds_parts frugal.types t)) q.0).0 behind among k m ms q.1));
+        (apart frugal.objects (fills_parts frugal t) q.0).0 behind among k m ms q.1));
   }
 
   -- An inert record is assigned to: another one is copied,

@@ -1,9 +1,12 @@
 -- Any step of a frugal body (7.6, 7.6.1, 13.11.2) in front of its end leads on in it, or in one that it calls (6.4), or to the end of an object that it frees,
 -- or whose master it leaves, or to the beginning of one that it allocates or declares (4.8, 3.3.1).
 
-use Rattle.std.proofs.Common.{◌≡◌, ℕ, suc, Bool, true, false, if◌then◌else◌, List, [], ◌∷◌, ◌++◌, length, refl, subst, ◌⊎◌, inl, inr}
+use Rattle.std.proofs.Common.{◌≡◌, ℕ, suc, Bool, true, false, ◌&&◌, if◌then◌else◌, List, [], ◌∷◌, ◌++◌, length, refl, subst, ◌⊎◌, inl, inr}
 use Rattle.std.specs.Prelude.{Option, Some, None, drop, not, ◌||◌, ◌==◌}
+use Rattle.ada_owners.proofs.Objects.{next_id}
 use Rattle.std.specs.List.{slice_get, slice_index_or}
+use Rattle.std.proofs.lemmas.Bool.{and_parts, or_cases}
+use Rattle.ada_program.specs.WellFormed.{object_named}
 use Rattle.ada_program.specs.declared.program.Exception.{Exception}
 use Rattle.ada_program.specs.declared.program.TypeDefinition.{TypeDefinition}
 use Rattle.ada_program.specs.Form.{ActualForm, StmtsForm, no_stmts, a_stmt, HandlersForm, no_handlers, a_handler}
@@ -32,7 +35,7 @@ use Rattle.ada_meaning.specs.Event.{Event, Finalized, Quiet}
 use Rattle.ada_meaning.specs.Frame.{Resumes, Assigns, Frame, Treatment, begins, ends, is_return, Elaborates, Does, Decides, Repeats, Turns, Ranges, Counts, Exits, Handles, Closes, Leaves, Calls, Returns, Evaluates, Computes, Follows, TestsNull, Refers, RefersIn, Opens, OpensIn, Continues, Applies, AppliesAlone, Fills, Copies, Creates, Stores, Targets, StoresIn, TargetsRecord, StoresRecord, Receives, FreesIn, Declares, DeclaresRecord, Treats, Awaits, Confines, Writes, Ends, GivesBack, Clears, ClearsIn, handler_landing}
 use Rattle.ada_meaning.specs.Heap.{PartState, Cell, Found, on_null, on_gone, on_other, finds}
 use Rattle.ada_meaning.specs.State.{Activation, Master, home_of}
-use Rattle.ada_meaning.specs.Step.{halts, picks, treating, direction_of, picked_task, treated_on, operation_next, ended_next, finalized_next, performed_next, treats_next, first_or, places_of, operands_of, operand_count, newest_ones, with_operands, frame_next, landed, jump_next, mode_next, born_next, begun_next, beginning}
+use Rattle.ada_meaning.specs.Step.{all_tasks, halts, picks, treating, direction_of, picked_task, treated_on, operation_next, ended_next, finalized_next, performed_next, treats_next, first_or, places_of, operands_of, operand_count, newest_ones, with_operands, frame_next, landed, jump_next, mode_next, born_next, begun_next, beginning}
 use Rattle.ada_meaning.specs.Named.{Object, State, Next, named, next, look, lent, finalize}
 use Rattle.ada_quiet.proofs.FrugalAt.{frugal_called}
 use Rattle.ada_quiet.specs.Idle.{holds_parts}
@@ -40,17 +43,17 @@ use Rattle.ada_typed.proofs.Bodies.{own_bodies}
 use Rattle.ada_typed.proofs.Control as typed
 use Rattle.ada_typed.proofs.Control.{OwnBody}
 use Rattle.ada_typed.proofs.Kept.{Each, crosses as crosses_by, is_treatment}
-use Rattle.ada_sound.proofs.Allowance.{Allowance, allowance_of, are_thrifty, are_thrifty_handlers, is_thrifty_body, body_thrifty}
+use Rattle.ada_sound.proofs.Allowance.{Allowance, allowance_of, fills_parts, is_inert_named, are_thrifty, are_thrifty_handlers, is_thrifty_body, body_thrifty}
 use Rattle.ada_sound.specs.Agreement.{running_procedure}
 use Rattle.ada_sound.proofs.Calm.{ends_operation}
 use Rattle.ada_sound.proofs.Invariant.{Control}
 use Rattle.ada_sound.proofs.OperationStarts.{apart}
 use Rattle.ada_sound.proofs.FrugalControl.{AdjustsThere, AreInert, EndsThere, LeavesThere, IsAdjusted, RecordIsInside, adjusting_frugal, finalizing_frugal, own_in, FrugalLeads, FrugalLeaves, MayLeave, Frugal, is_return_first, none_treated, none_left, treating_leads, treating_leaves, Frugally, GoesFrugally, BeginsThere, FrugalBegins, beginning_frugal, begins_first, leads_first, none_beginning}
-use Rattle.ada_sound.proofs.InsideRecords.{performed_inside, record_inside}
+use Rattle.ada_sound.proofs.InsideRecords.{object_inside, performed_inside, record_inside}
 use Rattle.ada_sound.proofs.Standing.{FreesAmong}
 use Rattle.ada_sound.proofs.Steps.{crosses}
 use Rattle.ada_sound.proofs.FreedInside.{IsFreedNext}
-use Rattle.ada_sound.proofs.FrugalFrees.{ObjectIsBare, bare_by, RecordIsBare, records_bare_by, NextFreesOwn, next_own, ListedAlone, FrameIsFreely, NextIsFreely, next_freely, LeftAlone, Unborn, is_newly}
+use Rattle.ada_sound.proofs.FrugalFrees.{past_unborn, ObjectIsBare, bare_by, RecordIsBare, records_bare_by, NextFreesOwn, next_own, ListedAlone, FrameIsFreely, NextIsFreely, next_freely, LeftAlone, Unborn, is_newly}
 use Rattle.ada_sound.proofs.FrugalFrames as frames
 use Rattle.ada_sound.proofs.FrugalFrames.{EndsCreated, may_leave}
 
@@ -92,6 +95,21 @@ module _ (frugal : Allowance) (lower : List Master) (behind : Control) (among : 
 
   abbrev twice_without : List (Activation Value) → List (Activation Value)
   twice_without all = without (without all)
+
+  -- Nothing is to be done for a record object with an initial value, or it is inert.
+  inert_tasks : (t : ℕ) (o : Option ℕ) → object_named frugal.types (Some t) ≡ o → is_inert_named frugal o ≡ true → AreInert frugal (all_tasks tds t PartsFirst)
+  inert_tasks t None named is = absurd (cc is)
+  inert_tasks t (Some r) named is = (r, is, records_inside.1 t r PartsFirst named)
+
+  fills : (t : ℕ) → fills_parts frugal t ≡ true → (all_tasks tds t PartsFirst ≡ []) ⊎ ((frugal.treats_parts ≡ true) × AreInert frugal (all_tasks tds t PartsFirst))
+  fills t is =
+      let named = is_inert_named frugal (object_named frugal.types (Some t)) in
+      elim (or_cases (not (holds_parts frugal.types t)) (frugal.treats_parts && named) is) [
+        | inl bare ↦ inl (objects_bare t PartsFirst bare)
+        | inr inert ↦
+            let both = and_parts frugal.treats_parts named inert in
+            inr (both.0, inert_tasks t (object_named frugal.types (Some t)) refl both.1)
+      ]
 
   -- What is left of the body goes on.
   frame_on : (f : Frame Value) (k : Control) (ms : List Master) → (all : List (Activation Value)) → IsInner f k ms → is_treatment f ≡ false → FrameIsFreely frugal tds f k s.heap (places_of all) (operands_of all) → (frugal.objects ≡ true → Unborn s.heap (f ∷ k)) → FrugalLeads frugal behind among (f ∷ k) ms → Fine (frame_next named tds bodies f (now all k ms))
@@ -161,7 +179,8 @@ module _ (frugal : Allowance) (lower : List Master) (behind : Control) (among : 
   frame_on (DeclaresRecord x t) k [] all inner plain freely unborn q = absurd q
   frame_on (DeclaresRecord x t) k (m ∷ ms) all inner plain freely unborn q =
       frames.record_declares_on frugal lower behind among tds bodies s (m ∷ ms) x t (newest_ones named (words_of tds t) (now all k (m ∷ ms)))
-      (with_operands (drop (words_of tds t) (operands_of all)) all) k (objects_bare t PartsFirst (apart frugal.objects (not (holds_parts frugal.types t)) q.0).1) q
+      (with_operands (drop (words_of tds t) (operands_of all)) all) k (fills t (apart frugal.objects (fills_parts frugal t) q.0).1)
+      (unborn (apart frugal.objects (fills_parts frugal t) q.0).0 (next_id s.heap) (past_unborn s.heap)) q
   frame_on Writes k ms all inner plain freely unborn (thrifty, q) =
       frames.line_on frugal lower behind among tds bodies s ms (named.reads_integer (first_or Null (operands_of all))) (without all) k q
   frame_on (Ends v) k ms all inner plain freely unborn (thrifty, q) = frames.end_on frugal lower behind among tds bodies s ms v (look s.heap v) all k q
@@ -364,7 +383,7 @@ pub frugal_goes :
 frugal_goes program whole lower behind among s f inner none typing may frees alone unborn left =
     let p = program_form program in
     let procedure = running_procedure s in
-    frugal_steps (seen_in procedure p) (own_bodies p whole procedure) program.types.items (body_forms program) (allowance_of p) (bare_by program) (records_bare_by program) (record_inside program)
+    frugal_steps (seen_in procedure p) (own_bodies p whole procedure) program.types.items (body_forms program) (allowance_of p) (bare_by program) (records_bare_by program) (record_inside program, object_inside program)
     (λ number b there told. body_thrifty p false b (frugal_called p number b told there)) (λ created. refl) behind among lower s f inner none typing may frees
     (λ treats_parts. alone) (λ created. unborn) (λ created. left)
 
@@ -376,7 +395,7 @@ CallsNothing frugal tds =
 
 adjusting_none : (tds : List TypeDefinition) (by : Birth) → IsAdjusted by → (of : ℕ) → procedure_number (operations_of tds of).adjust ≡ None → beginning by (operations_of tds of) ≡ None
 adjusting_none tds Creation adjusted of none = absurd adjusted
-adjusting_none tds Copy adjusted of none = absurd adjusted
+adjusting_none tds Copy adjusted of none = none
 adjusting_none tds (Adjustment number) adjusted of none = none
 
 -- It stays so once a component is picked,
@@ -595,10 +614,10 @@ treats_frugally frugal lower back among tds bodies s inert_calls inert_picked f 
         )
     by_frugal (begins how done) (inr (inr (may, (inl fresh, q)))) = begins_on frugal lower back among tds bodies s (IsTreated frugal back among v k f.upper (begins how done)) v k how f q runs fresh (fresh, q) done tasks (task_next tasks)
     by_frugal (begins how done) (inr (inr (may, (inr adjusting, q)))) =
-        inert_begins_on frugal lower back among tds bodies s (IsTreated frugal back among v k f.upper (begins how done)) v k inert_calls inert_picked how adjusting.0 f so done tasks adjusting.1.2 (task_next tasks) refl
+        inert_begins_on frugal lower back among tds bodies s (IsTreated frugal back among v k f.upper (begins how done)) v k inert_calls inert_picked how adjusting.0 f so done tasks adjusting.1.1 (task_next tasks) refl
       where
         so : (born : List Part) (left : List Task) → AreInert frugal left → Frugal frugal back among s.mode (treating v (begins how born) left k) f.upper
-        so born left inert = rw runs (adjusting_frugal frugal back among v how born left k f.upper (adjusting.0, (adjusting.1.0, adjusting.1.1, inert)) q)
+        so born left inert = rw runs (adjusting_frugal frugal back among v how born left k f.upper (adjusting.0, (adjusting.1.0, inert, adjusting.1.2)) q)
     by_frugal (ends cause) (inr (inr (may, (ending, q)))) =
         inert_treats_on frugal lower back among tds bodies s (IsTreated frugal back among v k f.upper (ends cause)) v k inert_calls inert_picked cause so tasks ending.2.2 (task_next tasks) refl
       where

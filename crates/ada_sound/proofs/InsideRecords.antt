@@ -2,7 +2,7 @@
 
 use Rattle.std.proofs.Common.{◌≡◌, ℕ, zero, suc, Bool, true, false, if◌then◌else◌, List, [], ◌∷◌, ◌++◌, Option, Some, None, refl, sym, ap, ◌∙◌, subst}
 use Rattle.std.specs.List.{remove, slice_get}
-use Rattle.ada_meaning.specs.Step.{member_at, open_count, picked_task, record_tasks, tasks_in}
+use Rattle.ada_meaning.specs.Step.{all_tasks, member_at, open_count, picked_task, record_tasks, tasks_in}
 use Rattle.ada_parts.specs.declared.tasks.Component.{Component}
 use Rattle.ada_parts.specs.declared.tasks.Direction.{Direction}
 use Rattle.ada_parts.specs.declared.tasks.Direction.TheVariants.{PartsFirst, WholeFirst}
@@ -13,8 +13,9 @@ use Rattle.ada_parts.specs.Task.{Task, performs, treats, treatment_of, operation
 use Rattle.ada_program.specs.declared.program.Program.{Program}
 use Rattle.ada_program.specs.Controlled.{number_of, shapes_of, number_in}
 use Rattle.ada_program.specs.ProgramForm.{TypeForm, program_form}
-use Rattle.ada_program.specs.WellFormed.{finalization_of}
+use Rattle.ada_program.specs.WellFormed.{finalization_of, object_named}
 use Rattle.ada_program.proofs.Shapes.{same_number}
+use Rattle.ada_reaching.proofs.Selections.{object_tasks}
 use Rattle.ada_typed.proofs.Parts.{shown_number, shown_shapes, shapes_shown}
 
 -- A record of the type that has a number among those with controlled parts is of this record type, or lies in one (7.6).
@@ -105,6 +106,13 @@ record_inside program t direction first =
     let forms = (program_form program).types in
     subst (λ (shapes : List Shape). TasksInside forms t (tasks_in shapes direction (number_of types (Some t)) first)) (shapes_shown types forms refl)
     (inside_record forms t direction first (number_of types (Some t)) (sym (same_number types t)))
+
+-- So does all that is to be done for an object that is known by it (3.3.1).
+pub object_inside : (program : Program) (t r : ℕ) (direction : Direction) → object_named (program_form program).types (Some t) ≡ Some r
+    → TasksInside (program_form program).types r (all_tasks program.types.items t direction)
+object_inside program t r direction named =
+    let forms = (program_form program).types in
+    subst (λ (tasks : List Task). TasksInside forms r tasks) (sym (object_tasks program.types.items forms t r direction refl named)) (record_inside program r direction 0)
 
 -- So it is once a component is picked.
 pub picked_inside : (program : Program) (t : ℕ) (direction : Direction) (tasks : List Task) (i : ℕ) → TasksInside (program_form program).types t tasks → TasksInside (program_form program).types t (picked_task (shapes_of program.types.items) direction tasks i)

@@ -337,6 +337,8 @@ pub mod TouchingBegins
 -- what is initialized is owned outside of the bodies that run inside
 pub mod BegunOutside
 pub mod WatchedBegins
+-- the Adjust of a part of a copy begins, where nothing tracks
+pub mod TouchingCopies
 pub mod TouchingStarts
 -- what a body sees
 pub mod Sees

@@ -81,13 +81,15 @@ module _
     ends_let none_out made overrides = lets_none Finalize (none_out.finalizes made e) overrides
 
 -- What comes out of the body of an operation that may touch storage may come out of the treatment that calls it: of an Initialize what the creation of the
--- object may raise, and of a Finalize nothing (7.6, 7.6.1).
+-- object may raise, and of an Adjust or a Finalize nothing (7.6, 7.6.1).
 pub touches_let :
     (program : Program) → IsWellFormed (program_form program) → LetsNothingOut (program_form program) → makes_parts (program_form program) ≡ true → (access of part number : ℕ) (b : BodyForm) → IsOperable (program_form program).types access of part
-    → (treatment : Treatment) → MayTouch treatment → IsCalled (operations_of program.types.items of) treatment number → slice_get (body_forms program) number ≡ Some b
+    → (treatment : Treatment) → MayTouch (program_form program) treatment → IsCalled (operations_of program.types.items of) treatment number → slice_get (body_forms program) number ≡ Some b
     → (e : Exception) → body_among (implicit_of (program_form program)) (seen_in (Some number) (program_form program)) e ≡ true → lets_out (implicit_of (program_form program)) access treatment e ≡ true
-touches_let program well none_out made access of part number b operable (begins Creation done) touch called there e among = starts_let program well access of part number b operable there e among called
-touches_let program well none_out made access of part number b operable (begins Copy done) touch called there e among = absurd touch
-touches_let program well none_out made access of part number b operable (begins (Adjustment n) done) touch called there e among = absurd touch
-touches_let program well none_out made access of part number b operable (ends cause) touch called there e among =
+touches_let program well none_out made access of part number b operable (begins Creation done) may called there e among = starts_let program well access of part number b operable there e among called
+touches_let program well none_out made access of part number b operable (begins Copy done) may called there e among =
+    absurd (adjusts_let program well access of part number b operable there e among none_out may.1 called)
+touches_let program well none_out made access of part number b operable (begins (Adjustment n) done) may called there e among =
+    absurd (adjusts_let program well access of part number b operable there e among none_out may.1 called)
+touches_let program well none_out made access of part number b operable (ends cause) may called there e among =
     absurd (ends_let program well access of part number b operable there e among none_out made called)

@@ -504,11 +504,11 @@ module _ (program : Program) (well : IsWellFormed (program_form program)) where
       let p : Part = record { of = of; number = part } in
       left_within access r (performs of part ∷ tasks) l p (head_in p (parts_left shapes tasks))
 
-  -- If it declares components of access types, its Adjust sees to them.
-  pub called_sees :
-      (access r of part : ℕ) (tasks : List Task) → CopyLeft types access r (performs of part ∷ tasks) → owners_numbered types of ≢ []
-      → (u : ℕ) × SeesToOwners types u of
-  called_sees access r of part tasks l some = go (called_there access r of part tasks l)
+  -- If a part that is left declares components of access types, its Adjust sees to them.
+  sees_within :
+      (access r of part : ℕ) (tasks : List Task) (l : CopyLeft types access r tasks) → PartWithin types access r l.first l.part of part
+      → owners_numbered types of ≢ [] → (u : ℕ) × SeesToOwners types u of
+  sees_within access r of part tasks l within some = go within
     where
       number : (u : ℕ) (c : IsControlled types u) → shown_number types (Some u) ≡ Some of → c.finalization.number.0 ≡ of
       number u c is =
@@ -524,6 +524,17 @@ module _ (program : Program) (well : IsWellFormed (program_form program)) where
           let u = w.placed.record_type in
           let c = w.placed.controlled in
           (u, subst (SeesToOwners types u) (number u c w.placed.numbered) (l.sees.sees u w.before w.count c w.walks (owns u c w.placed.numbered)))
+
+  pub left_sees :
+      (access r : ℕ) (tasks : List Task) → CopyLeft types access r tasks → (p : Part) → Contains (parts_left shapes tasks) p → owners_numbered types p.of ≢ []
+      → (u : ℕ) × SeesToOwners types u p.of
+  left_sees access r tasks l p has some = sees_within access r p.of p.number tasks l (left_within access r tasks l p has) some
+
+  -- So it is with what is called.
+  pub called_sees :
+      (access r of part : ℕ) (tasks : List Task) → CopyLeft types access r (performs of part ∷ tasks) → owners_numbered types of ≢ []
+      → (u : ℕ) × SeesToOwners types u of
+  called_sees access r of part tasks l some = sees_within access r of part (performs of part ∷ tasks) l (called_there access r of part tasks l) some
 
   -- What is called is not left.
   pub not_left :

@@ -76,6 +76,7 @@ pause_on program depth later s after e f alters same still = record {
   watch = f.watch;
   still = still;
   rests = f.rests;
+  adjusts = f.adjusts;
   lets = f.lets;
 }
 

@@ -25,8 +25,9 @@ use Rattle.ada_scopes.specs.Scopes.{NestsWhereOpen, AllNestWhereOpen, Operations
 use Rattle.ada_quiet.specs.Apart.{is_this_one, is_adjust_of}
 use Rattle.ada_quiet.specs.Quiet.{is_quiet_stmt, are_quiet, are_quiet_branches, are_quiet_handlers, are_quiet_declarations, is_plain_body, is_quiet_body, is_plain_procedure, is_quiet_procedure, is_plain_operation, is_quiet_operation, has_access, operation_body}
 use Rattle.ada_quiet.specs.Frugal.{is_frugal_body, frugal_operations, thrift_of, is_frugal_operation}
-use Rattle.ada_quiet.specs.InUse.{may_be_frugal, uses_initialize, uses_finalize, uses_operations, operations_may_be_called, adjusts_alone, adjusts_nothing, may_track, uses_adjust, uses_called_adjust}
+use Rattle.ada_quiet.specs.InUse.{may_adjust_frugally, tracks_nothing, may_be_frugal, uses_initialize, uses_finalize, uses_operations, operations_may_be_called, adjusts_alone, adjusts_nothing, may_track, uses_adjust, uses_called_adjust}
 use Rattle.ada_quiet.specs.Idle.{copies_parts}
+use Rattle.ada_quiet.specs.Calm.{calmly_copied_types}
 use Rattle.ada_quiet.specs.Simple.{is_simple_body, is_simple_procedure, is_simple_operation}
 use Rattle.ada_quiet.proofs.InUse.{plain_procedure, plain_operation}
 use Rattle.ada_sound.proofs.Exits.{no_exits, no_exit_handlers}
@@ -140,13 +141,17 @@ module _ (p : ProgramForm) where
   IsFrugal number = (may_be_frugal p ≡ true) × (slice_index_or (frugal_operations p) number false ≡ true)
 
   abbrev pub IsSimple : ℕ → Type 0
-  IsSimple number = (may_track p ≡ true) × (is_simple_procedure p.types (adjusts_alone p) (slice_get p.bodies number) ≡ true)
+  IsSimple number = (may_track p ≡ true) × (is_simple_procedure p.types (calmly_copied_types p) (adjusts_alone p) (slice_get p.bodies number) ≡ true)
 
-  -- What overrides Initialize is plain or frugal, what overrides Adjust is quiet, or simple and of a type that owns, and what overrides Finalize is quiet, or
-  -- frugal.
+  -- A procedure is frugal, and nothing tracks in the program.
+  abbrev pub IsFreelyFrugal : ℕ → Type 0
+  IsFreelyFrugal number = (tracks_nothing p ≡ true) × IsFrugal number × IsNotQuiet number
+
+  -- What overrides Initialize is plain or frugal, what overrides Adjust is quiet, or frugal where nothing tracks, or simple and of a type that owns, and what
+  -- overrides Finalize is quiet, or frugal.
   record AreUsed (Owns : Type 0) (o : Operations) (number : ℕ) : Type 0 where
     initializes : procedure_number o.initialize ≡ Some number → IsPlain number ⊎ (IsFrugal number × IsNotPlain number)
-    adjusts : copies_parts p ≡ true → procedure_number o.adjust ≡ Some number → IsQuiet number ⊎ (IsSimple number × Owns)
+    adjusts : copies_parts p ≡ true → procedure_number o.adjust ≡ Some number → IsQuiet number ⊎ (IsFreelyFrugal number ⊎ (IsSimple number × Owns))
     finalizes : procedure_number o.finalize ≡ Some number → IsQuiet number ⊎ (IsFrugal number × IsNotQuiet number)
 
   plain_one : (o : Option ProcedureNo) (number : ℕ) → is_plain_operation p o ≡ true → procedure_number o ≡ Some number → IsPlain number
@@ -182,7 +187,7 @@ module _ (p : ProgramForm) where
 
   simple_one :
       (o : Option ProcedureNo) (number : ℕ) → is_simple_operation p (adjusts_alone p) o ≡ true → procedure_number o ≡ Some number
-      → is_simple_procedure p.types (adjusts_alone p) (slice_get p.bodies number) ≡ true
+      → is_simple_procedure p.types (calmly_copied_types p) (adjusts_alone p) (slice_get p.bodies number) ≡ true
   simple_one None number simple is = absurd (cc is)
   simple_one (Some procedure) number simple is = let same : procedure.0 ≡ number = cc is in rw same at simple
 
@@ -190,16 +195,24 @@ module _ (p : ProgramForm) where
   pub called_adjust : (owns : Bool) (o : Option ProcedureNo) → copies_parts p ≡ true → uses_adjust p owns o ≡ true → uses_called_adjust p owns o ≡ true
   called_adjust owns o copies uses = rw copies at uses
 
-  pub adjust_one : (owns : Bool) (o : Option ProcedureNo) (number : ℕ) → uses_called_adjust p owns o ≡ true → procedure_number o ≡ Some number → IsQuiet number ⊎ (IsSimple number × (owns ≡ true))
+  pub adjust_one : (owns : Bool) (o : Option ProcedureNo) (number : ℕ) → uses_called_adjust p owns o ≡ true → procedure_number o ≡ Some number → IsQuiet number ⊎ (IsFreelyFrugal number ⊎ (IsSimple number × (owns ≡ true)))
   adjust_one owns o number uses is = by (owns && is_some (operation_body p o)) refl uses
     where
+      freely : (quiet : Bool) → is_quiet_operation p o ≡ quiet → (quiet || (may_adjust_frugally p && is_frugal_operation p o)) ≡ true
+          → IsQuiet number ⊎ (IsFreelyFrugal number ⊎ (IsSimple number × (owns ≡ true)))
+      freely true quiet uses' = inl (quiet_one o number quiet is)
+      freely false quiet uses' =
+          let both = apart (may_adjust_frugally p) (is_frugal_operation p o) uses' in
+          let may = apart (may_be_frugal p) (tracks_nothing p) both.0 in
+          inr (inl (may.1, (may.0, frugal_one o number both.1 is), not_quiet o number quiet is))
+
       by : (tracks : Bool) → (owns && is_some (operation_body p o)) ≡ tracks
-          → (if tracks then may_track p && is_simple_operation p (adjusts_alone p) o else is_quiet_operation p o) ≡ true
-          → IsQuiet number ⊎ (IsSimple number × (owns ≡ true))
-      by false so uses' = inl (quiet_one o number uses' is)
+          → (if tracks then may_track p && is_simple_operation p (adjusts_alone p) o else (is_quiet_operation p o || (may_adjust_frugally p && is_frugal_operation p o))) ≡ true
+          → IsQuiet number ⊎ (IsFreelyFrugal number ⊎ (IsSimple number × (owns ≡ true)))
+      by false so uses' = freely (is_quiet_operation p o) refl uses'
       by true so uses' =
           let both = apart (may_track p) (is_simple_operation p (adjusts_alone p) o) uses' in
-          inr ((both.0, simple_one o number both.1 is), (apart owns (is_some (operation_body p o)) so).0)
+          inr (inr ((both.0, simple_one o number both.1 is), (apart owns (is_some (operation_body p o)) so).0))
 
   initialize_one : (o : Option ProcedureNo) (number : ℕ) → uses_initialize p o ≡ true → procedure_number o ≡ Some number → IsPlain number ⊎ (IsFrugal number × IsNotPlain number)
   initialize_one o number uses is = by (is_plain_operation p o) refl uses
@@ -219,9 +232,11 @@ module _ (p : ProgramForm) where
         finalizes = λ is. finalize_one f.operations.finalize number three.1 is;
       }
     where
-      by : procedure_number f.operations.adjust ≡ Some number → IsQuiet number ⊎ (IsSimple number × (owns ≡ true)) → IsQuiet number ⊎ (IsSimple number × Owns)
+      by : procedure_number f.operations.adjust ≡ Some number → IsQuiet number ⊎ (IsFreelyFrugal number ⊎ (IsSimple number × (owns ≡ true)))
+          → IsQuiet number ⊎ (IsFreelyFrugal number ⊎ (IsSimple number × Owns))
       by is (inl quiet) = inl quiet
-      by is (inr simple) = inr (simple.0, own simple.1 (this_one f.operations.adjust number is))
+      by is (inr (inl freely)) = inr (inl freely)
+      by is (inr (inr simple)) = inr (inr (simple.0, own simple.1 (this_one f.operations.adjust number is)))
 
   none_used : (Owns : Type 0) (number : ℕ) → AreUsed Owns (operations_in None) number
   none_used Owns number = three_used Owns false None number (λ owns is. absurd (cc owns)) refl
@@ -324,12 +339,13 @@ module _ (p : ProgramForm) where
   adjust_nests well t owns None right uses = tt
   adjust_nests well t owns (Some procedure) right uses = either (or_cases (adjusts_nothing p && is_frugal_operation p (Some procedure)) (uses_called_adjust p owns (Some procedure)) uses)
     where
-      by : IsQuiet procedure.0 ⊎ (IsSimple procedure.0 × (owns ≡ true)) → Nests (Some procedure)
+      by : IsQuiet procedure.0 ⊎ (IsFreelyFrugal procedure.0 ⊎ (IsSimple procedure.0 × (owns ≡ true))) → Nests (Some procedure)
       by (inl quiet) = plain_nests t (Some procedure) right (plain_operation p (Some procedure) quiet)
-      by (inr both) =
+      by (inr (inl freely)) = operation_nests p well procedure.0 freely.1.1
+      by (inr (inr both)) =
           let b = there_one t (Some procedure) procedure.0 right refl in
-          let simple = simple_with p.types (adjusts_alone p) b.0 (rw (b.1) at both.0.1) in
-          λ around all. nests_there procedure.0 b.0 b.1 (λ callees around'. simple_nests p.types callees b.0 around' simple) around
+          let simple = simple_with p.types (adjusts_alone p) (calmly_copied_types p) b.0 (rw (b.1) at both.0.1) in
+          λ around all. nests_there procedure.0 b.0 b.1 (λ callees around'. simple_nests p.types (calmly_copied_types p) callees b.0 around' simple) around
 
       either : ((adjusts_nothing p && is_frugal_operation p (Some procedure)) ≡ true) ⊎ (uses_called_adjust p owns (Some procedure) ≡ true) → Nests (Some procedure)
       either (inl nothing) = operation_nests p well procedure.0 (apart (adjusts_nothing p) (is_frugal_operation p (Some procedure)) nothing).1
@@ -359,12 +375,13 @@ LetsNothingOut (begins Copy done) b = body_raises no_calls b (λ e. true) ≡ fa
 LetsNothingOut (begins (Adjustment number) done) b = body_raises no_calls b (λ e. true) ≡ false
 LetsNothingOut (ends cause) b = body_raises no_calls b (λ e. true) ≡ false
 
--- What is called for a new object, or for one that is finalized, may touch storage (7.6, 7.6.1).
-abbrev pub MayTouch : Treatment → Type 0
-MayTouch (begins Creation done) = Unit {0}
-MayTouch (begins Copy done) = ⊥
-MayTouch (begins (Adjustment number) done) = ⊥
-MayTouch (ends cause) = Unit {0}
+-- What is called for a new object, or for one that is finalized, may touch storage, and so may what is called for a copy, in a program that copies records
+-- with controlled parts, and in which nothing tracks (7.6, 7.6.1).
+abbrev pub MayTouch : ProgramForm → Treatment → Type 0
+MayTouch p (begins Creation done) = Unit {0}
+MayTouch p (begins Copy done) = (tracks_nothing p ≡ true) × (copies_parts p ≡ true)
+MayTouch p (begins (Adjustment number) done) = (tracks_nothing p ≡ true) × (copies_parts p ≡ true)
+MayTouch p (ends cause) = Unit {0}
 
 -- What is called for a copy is an Adjust (7.6).
 abbrev pub AdjustsCopy : Treatment → Type 0
@@ -375,7 +392,7 @@ AdjustsCopy (ends cause) = ⊥
 
 -- An Adjust may track components of its formal parameter: it is simple, and frees nothing where a record has two controlled parts.
 abbrev pub MayTrack : ProgramForm → BodyForm → Type 0
-MayTrack p b = (may_track p ≡ true) × (is_simple_body p.types (adjusts_alone p) b ≡ true)
+MayTrack p b = (may_track p ≡ true) × (is_simple_body p.types (calmly_copied_types p) (adjusts_alone p) b ≡ true)
 
 -- A type of this number, among the controlled ones, declares a component of an access type directly, and the procedure overrides its Adjust (3.10, 7.6).
 pub record AdjustsOwn (types : List TypeForm) (of number : ℕ) : Type 0 where
@@ -386,16 +403,18 @@ pub record AdjustsOwn (types : List TypeForm) (of number : ℕ) : Type 0 where
   pub numbered : number_in (finalization_in (Some t)) ≡ Some of
   pub overrides : is_adjust_of number (finalization_in (Some t)) ≡ true
 
--- A body that begins or ends a part touches storage: that of an Initialize is not plain, or that of a Finalize is not quiet.
+-- A body that begins or ends a part touches storage: that of an Initialize is not plain, or that of an Adjust or a Finalize is not quiet.
 abbrev pub TouchesStorage : ProgramForm → Treatment → BodyForm → Type 0
-TouchesStorage p (begins by done) b = is_plain_body p.types b ≡ false
+TouchesStorage p (begins Creation done) b = is_plain_body p.types b ≡ false
+TouchesStorage p (begins Copy done) b = is_quiet_body p.types b ≡ false
+TouchesStorage p (begins (Adjustment number) done) b = is_quiet_body p.types b ≡ false
 TouchesStorage p (ends cause) b = is_quiet_body p.types b ≡ false
 
--- What is called is plain, or it is an Initialize or a Finalize that touches storage and is frugal, where it may be, or an Adjust that may track.
+-- What is called is plain, or it touches storage and is frugal, where it may be, or it is an Adjust that may track.
 abbrev pub IsUsedAs : ProgramForm → (of number : ℕ) → Treatment → BodyForm → Type 0
 IsUsedAs p of number treatment b =
     (PlainBody p.types b × LetsNothingOut treatment b)
-    ⊎ ((MayTouch treatment × (may_be_frugal p ≡ true) × (is_frugal_body (thrift_of p) b ≡ true) × TouchesStorage p treatment b)
+    ⊎ ((MayTouch p treatment × (may_be_frugal p ≡ true) × (is_frugal_body (thrift_of p) b ≡ true) × TouchesStorage p treatment b)
     ⊎ (AdjustsCopy treatment × MayTrack p b × AdjustsOwn p.types of number))
 
 -- A type that passes the test of a number has that number among the controlled ones, as what is shown of it says.
@@ -448,12 +467,16 @@ module _ (program : Program) (uses : operations_may_be_called (program_form prog
   initializes_as done (inr both) = inr (inl (tt, both.0.0, operation_at whole number b both.0.1 there, rw there at both.1))
 
   adjusts_as : (treatment : Treatment) → AdjustsCopy treatment → (body_raises no_calls b (λ e. true) ≡ false → LetsNothingOut treatment b)
-      → IsQuiet whole number ⊎ (IsSimple whole number × AdjustsOwn whole.types of number) → IsUsedAs whole of number treatment b
-  adjusts_as treatment copies lets (inl quiet) = let q = quiet_body quiet in inl (q.0, lets q.1)
-  adjusts_as treatment copies lets (inr both) = inr (inr (copies, (both.0.0, rw there at both.0.1), both.1))
+      → (tracks_nothing whole ≡ true → MayTouch whole treatment) → (is_quiet_body whole.types b ≡ false → TouchesStorage whole treatment b)
+      → IsQuiet whole number ⊎ (IsFreelyFrugal whole number ⊎ (IsSimple whole number × AdjustsOwn whole.types of number)) → IsUsedAs whole of number treatment b
+  adjusts_as treatment copies lets may touches (inl quiet) = let q = quiet_body quiet in inl (q.0, lets q.1)
+  adjusts_as treatment copies lets may touches (inr (inl (nothing, frugal, other))) =
+      inr (inl (may nothing, frugal.0, operation_at whole number b frugal.1 there, touches (rw there at other)))
+  adjusts_as treatment copies lets may touches (inr (inr both)) = inr (inr (copies, (both.0.0, rw there at both.0.1), both.1))
 
   pub used_as : (treatment : Treatment) → (AdjustsCopy treatment → copies_parts whole ≡ true) → IsCalled (operations_of program.types.items of) treatment number → IsUsedAs whole of number treatment b
   used_as (begins Creation done) copies called = initializes_as done (used.initializes called)
-  used_as (begins Copy done) copies called = adjusts_as (begins Copy done) tt (λ none. none) (used.adjusts (copies tt) called)
-  used_as (begins (Adjustment n) done) copies called = adjusts_as (begins (Adjustment n) done) tt (λ none. none) (used.adjusts (copies tt) called)
+  used_as (begins Copy done) copies called = adjusts_as (begins Copy done) tt (λ none. none) (λ nothing. (nothing, copies tt)) (λ other. other) (used.adjusts (copies tt) called)
+  used_as (begins (Adjustment n) done) copies called =
+      adjusts_as (begins (Adjustment n) done) tt (λ none. none) (λ nothing. (nothing, copies tt)) (λ other. other) (used.adjusts (copies tt) called)
   used_as (ends cause) copies called = finalizes_as cause (used.finalizes called)

@@ -1,10 +1,10 @@
 -- Frugal bodies are of the shape of bodies that shun access types (3.10). They call such procedures alone; and where they use no value of a type, neither does
 -- what they call, nor the start of what they allocate or declare, nor the end of what they free or declare (4.1, 4.8, 7.6, 7.6.1, 13.11.2).
 
-use Rattle.std.proofs.Common.{◌≡◌, ℕ, Bool, true, false, not, ◌==◌, ◌&&◌, ◌||◌, if◌then◌else◌, List, [], ◌∷◌, length, Option, Some, None, refl, sym, subst}
+use Rattle.std.proofs.Common.{◌≡◌, ℕ, Bool, true, false, not, ◌==◌, ◌&&◌, ◌||◌, if◌then◌else◌, List, [], ◌∷◌, length, Option, Some, None, refl, sym, subst, inl, inr}
 use Rattle.std.specs.Prelude.{nat_lt, is_some}
 use Rattle.std.specs.List.{list_all, slice_index_or}
-use Rattle.std.proofs.lemmas.Bool.{and_from, and_parts, or_parts, or_right}
+use Rattle.std.proofs.lemmas.Bool.{and_from, and_parts, or_cases, or_left, or_parts, or_right}
 use Rattle.ada_effects.specs.Effects.{record_path_raises}
 use Rattle.ada_program.specs.declared.program.Finalization.{Finalization}
 use Rattle.ada_program.specs.declared.program.ScalarType.TheVariants.{Integer, Boolean}
@@ -18,18 +18,18 @@ use Rattle.ada_quiet.specs.Bare.{has_bare_objects}
 use Rattle.ada_quiet.specs.Idle.{holds_parts}
 use Rattle.ada_quiet.specs.Apart.{is_bare_item}
 use Rattle.ada_quiet.specs.Calm.{inert_types, is_known_calm}
-use Rattle.ada_quiet.specs.Frugal.{assigns_at_hand, allocates_frugally, is_bare_initial, thrift_of, frugal_procedures, is_frugal_declaration, are_frugal_declarations, is_frugal_stmt, are_frugal, are_frugal_branches, are_frugal_handlers, is_frugal_body}
+use Rattle.ada_quiet.specs.Frugal.{assigns_at_hand, allocates_frugally, is_bare_initial, is_inert_named, is_inert_initial, thrift_of, frugal_procedures, is_frugal_declaration, are_frugal_declarations, is_frugal_stmt, are_frugal, are_frugal_branches, are_frugal_handlers, is_frugal_body}
 use Rattle.ada_deeds.specs.declared.deed.Callee.{Callee}
 use Rattle.ada_deeds.specs.declared.deed.Callee.TheVariants as callee
 use Rattle.ada_deeds.specs.declared.deed.Deed.{Deed}
 use Rattle.ada_deeds.specs.declared.deed.Deed.TheVariants as deed
 use Rattle.ada_deeds.specs.declared.deed.Operation.TheVariants.{Initialize, Finalize}
-use Rattle.ada_deeds.specs.Forms.{path_does, expression_does, condition_does, actuals_do, allocation_does, freeing_does, is_left, procedure_does, parts_do, creation_does, designated_by, right_does, declaration_does, declarations_do, leaving_does, stmt_does, stmts_do, branches_do, handlers_do, body_does}
+use Rattle.ada_deeds.specs.Forms.{path_does, expression_does, condition_does, actuals_do, allocation_does, freeing_does, is_left, procedure_does, parts_do, creation_does, designated_by, right_does, declaration_does, declarations_do, ending_does, leaving_does, stmt_does, stmts_do, branches_do, handlers_do, body_does}
 use Rattle.ada_deeds.specs.Implicit.{record_at}
 use Rattle.ada_deeds.specs.Within.{does_by}
 use Rattle.ada_deeds.proofs.Naming.{KindFits, access_at, default_access, left_holds, object_at, object_type, path_fits_kind, right_holds, variable_fits_kind}
 use Rattle.ada_reaching.specs.Apart.{Apart}
-use Rattle.ada_reaching.specs.Forms.{may_assign, may_follow, may_end, selectors_shun, path_shuns, record_path_shuns, expression_shuns, links_shun, condition_shuns, item_shuns, right_shuns, actual_shuns, declaration_shuns, declarations_shun, statement_shuns, statements_shun, branches_shun, handlers_shun, body_shuns}
+use Rattle.ada_reaching.specs.Forms.{may_assign, may_assign_named, may_fill, may_follow, may_end, selectors_shun, path_shuns, record_path_shuns, expression_shuns, links_shun, condition_shuns, item_shuns, right_shuns, actual_shuns, declaration_shuns, declarations_shun, statement_shuns, statements_shun, branches_shun, handlers_shun, body_shuns}
 use Rattle.ada_typed.proofs.Bodies.{SeenFits}
 
 -- Frugal bodies are of the shape of bodies that shun types.
@@ -202,20 +202,26 @@ module _ (p : ProgramForm) (u : ℕ) where
         (started access (subst (λ (o : Option ℕ). Spares p u (λ d. creation_does (does_by p d) o)) (sym same) created))
     right_shaped kind (computes e) known fits is spares = expression_shaped p.types apart variables e
 
+    -- Records of a type that is known to be inert may be assigned to.
+    named_shaped : (o : Option ℕ) → is_inert_named (thrift_of p) o ≡ true → may_assign_named apart o ≡ true
+    named_shaped None is = absurd (cc is)
+    named_shaped (Some t) is = quietly t is
+
     -- A declaration has it (3.3.1): that of a variable,
     declaration_shaped :
         (c : DeclarationForm) → initial_fits p.types variables c ≡ true → is_frugal_declaration (thrift_of p) c ≡ true
-        → Spares p u (λ d. declaration_does p.types variables (does_by p d) d c) → declaration_shuns p.types (λ t. false) apart variables c ≡ true
-    declaration_shaped (creates_pool pool) fits is spares = absurd (cc is)
-    declaration_shaped (collects access) fits is spares = absurd (cc is)
-    declaration_shaped (declares x right) fits is spares =
+        → Spares p u (λ d. declaration_does p.types variables (does_by p d) d c) → Spares p u (λ d. ending_does p.types (does_by p d) c)
+        → declaration_shuns p.types (λ t. false) apart variables c ≡ true
+    declaration_shaped (creates_pool pool) fits is spares ends = absurd (cc is)
+    declaration_shaped (collects access) fits is spares ends = absurd (cc is)
+    declaration_shaped (declares x right) fits is spares ends =
         let kind = variable_kind variables x in
         let before = names_before x right in
         let takes = right_fits p.types variables kind right in
         right_shaped kind right (variable_fits_kind p.types types_fit variables variables_fit x)
         (right_holds before takes (left_holds (before && takes) (lends_to variables (is_borrower variables x) right) fits)) is spares
     -- and that of a record object, which is known by its own type, and starts by default.
-    declaration_shaped (declares_record x object None) fits is spares =
+    declaration_shaped (declares_record x object None) fits is spares ends =
         let kind = variable_kind variables x in
         let known =
         left_holds (is_record_object object kind) (record_initial_fits p.types variables x (object_named p.types (Some object)) None) fits in
@@ -225,25 +231,43 @@ module _ (p : ProgramForm) (u : ℕ) where
         let begun = λ (d : Deed). parts_do (does_by p d) Initialize (record_at p.types object) in
         let undone = λ (d : Deed). parts_do (does_by p d) Finalize (record_at p.types object) in
         and_from (apart.starts object) (apart.ends object) (started object created) (ended object (second begun undone created))
-    -- One without controlled parts starts with what its items are.
-    declaration_shaped (declares_record x object (Some items)) fits is spares =
-        let bare = (and_parts (record_nests p.types (collected p.declarations) object) (is_bare_initial p.types object items) is).1 in
+    -- One without controlled parts starts with what its items are, and so does one of an inert type, which ends where its master is left.
+    declaration_shaped (declares_record x object (Some items)) fits is spares ends =
+        let filled = is_bare_initial p.types object items || is_inert_initial (thrift_of p) object in
+        let may = (and_parts (record_nests p.types (collected p.declarations) object) filled is).1 in
         let test = item_shuns p.types (λ t. false) apart variables in
-        and_from (not (holds_parts p.types object)) (list_all test items)
-        (and_parts (not (holds_parts p.types object)) (list_all (is_bare_item p.types) items) bare).0 (all_so test (item_shaped p.types apart variables) items)
+        let bare = not (holds_parts p.types object) in
+        let named = may_assign_named apart (object_named p.types (Some object)) in
+        let kind = variable_kind variables x in
+        let known =
+        left_holds (is_record_object object kind) (record_initial_fits p.types variables x (object_named p.types (Some object)) (Some items)) fits in
+        let held = variable_fits_kind p.types types_fit variables variables_fit x in
+        let same = object_at p.types object (object_type p.types types_fit variables variables_fit kind object held known) in
+        let left = subst (λ (o : Option ℕ). Spares p u (λ d. parts_do (does_by p d) Finalize o)) (sym same) ends in
+        and_from (may_fill p.types apart object) (list_all test items)
+        (elim (or_cases (is_bare_initial p.types object items) (is_inert_initial (thrift_of p) object) may) [
+          | inl bare_so ↦ or_left bare (apart.ends object && named) (and_parts bare (list_all (is_bare_item p.types) items) bare_so).0
+          | inr inert ↦
+              or_right bare (apart.ends object && named) (and_from (apart.ends object) named (ended object left) (named_shaped (object_named p.types (Some object)) inert))
+        ])
+        (all_so test (item_shaped p.types apart variables) items)
 
     -- So have all declarations of such a body.
     declarations_shaped :
         (cs : List DeclarationForm) → list_all (initial_fits p.types variables) cs ≡ true → are_frugal_declarations (thrift_of p) cs ≡ true
-        → Spares p u (λ d. declarations_do p.types variables (does_by p d) d cs) → declarations_shun p.types (λ t. false) apart variables cs ≡ true
-    declarations_shaped [] fits is spares = refl
-    declarations_shaped (c ∷ cs) fits is spares =
+        → Spares p u (λ d. declarations_do p.types variables (does_by p d) d cs) → Spares p u (λ d. leaving_does p.types (does_by p d) cs)
+        → declarations_shun p.types (λ t. false) apart variables cs ≡ true
+    declarations_shaped [] fits is spares ends = refl
+    declarations_shaped (c ∷ cs) fits is spares ends =
         let both = and_parts (is_frugal_declaration (thrift_of p) c) (are_frugal_declarations (thrift_of p) cs) is in
         let fit = and_parts (initial_fits p.types variables c) (list_all (initial_fits p.types variables) cs) fits in
         let one = λ (d : Deed). declaration_does p.types variables (does_by p d) d c in
         let more = λ (d : Deed). declarations_do p.types variables (does_by p d) d cs in
+        let one_ends = λ (d : Deed). ending_does p.types (does_by p d) c in
+        let more_end = λ (d : Deed). leaving_does p.types (does_by p d) cs in
         and_from (declaration_shuns p.types (λ t. false) apart variables c) (declarations_shun p.types (λ t. false) apart variables cs)
-        (declaration_shaped c fit.0 both.0 (first one more spares)) (declarations_shaped cs fit.1 both.1 (second one more spares))
+        (declaration_shaped c fit.0 both.0 (first one more spares) (first one_ends more_end ends))
+        (declarations_shaped cs fit.1 both.1 (second one more spares) (second one_ends more_end ends))
 
     -- A block, or a body: what it declares, its statements and its handlers.
     abbrev master_does : List DeclarationForm → StmtsForm → HandlersForm → Deed → Bool
@@ -280,7 +304,7 @@ module _ (p : ProgramForm) (u : ℕ) where
         and_from (declarations_shun p.types (λ t. false) apart variables ds && statements_shun p.types (λ t. false) apart variables fs)
         (handlers_shun p.types (λ t. false) apart variables hs)
         (and_from (declarations_shun p.types (λ t. false) apart variables ds) (statements_shun p.types (λ t. false) apart variables fs)
-        (declarations_shaped ds fit inner.0 (first declared left two)) (within inner.1 (left_spares hs inside (second declared left two))))
+        (declarations_shaped ds fit inner.0 (first declared left two) (second (λ d. declared d || left d || handled d) ended spares)) (within inner.1 (left_spares hs inside (second declared left two))))
         (behind parts.1 (second (λ d. declared d || left d) handled three))
 
     mutual
@@ -314,7 +338,7 @@ module _ (p : ProgramForm) (u : ℕ) where
           assigned (Some f) is h =
               let calm = is_known_calm (inert_types p.types) (finalization_of p.types target.record_type) in
               let near = not (record_path_raises target) in
-              let three = and_parts (true && calm && near) (target.object.root == 0 && not (target.part == 0)) h in
+              let three = and_parts (true && calm && near) (not (target.object.root == 0 && target.part == 0)) h in
               let two = and_parts (true && calm) near three.0 in
               quietly target.record_type (and_parts true calm two.0).1
       statement_shaped inside (frees access path) fits frugal spares =

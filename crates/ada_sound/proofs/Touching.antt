@@ -1,5 +1,5 @@
--- The body of an operation runs that touches storage (7.6, 7.6.1, 13.11.2): an Initialize of an object that a declaration or an allocator creates, or a
--- Finalize of one at the leaving of its master, or where a variable or a component is freed that names it, or another record is assigned to it. What holds
+-- The body of an operation runs that touches storage (7.6, 7.6.1, 13.11.2): an Initialize of an object that a declaration or an allocator creates, an Adjust of
+-- a part of a copy, where no Adjust tracks, or a Finalize of one at the leaving of its master, or where a variable or a component is freed that names it, or another record is assigned to it. What holds
 -- there, and what is kept of all that waits for it.
 
 use Rattle.std.proofs.Common.{◌≡◌, ◌≢◌, ℕ, true, false, List, [], ◌∷◌, ◌++◌, ◌⊎◌, Option, drop, length, suc, take, not, ◌&&◌}
@@ -16,7 +16,8 @@ use Rattle.ada_deeds.specs.Implicit.{implicit_of}
 use Rattle.ada_effects.specs.Effects.{Implicit, assignment_frees}
 use Rattle.ada_flow.specs.declared.rule.Hold.TheVariants as hold
 use Rattle.ada_flow.specs.Flow.{Holds, Keeping, hold_at, is_owning}
-use Rattle.ada_meaning.specs.declared.event.Birth.TheVariants.{Creation}
+use Rattle.ada_meaning.specs.declared.event.Birth.{Birth}
+use Rattle.ada_meaning.specs.declared.event.Birth.TheVariants.{Creation, Copy, Adjustment}
 use Rattle.ada_meaning.specs.declared.event.Cause.TheVariants.{Leaving, Freeing, Assigning, Undoing}
 use Rattle.ada_meaning.specs.declared.state.Id.{Id}
 use Rattle.ada_meaning.specs.declared.state.Mode.{Mode}
@@ -32,9 +33,10 @@ use Rattle.ada_sound.proofs.Bodies.{IsBody}
 use Rattle.ada_sound.proofs.Callers.{Suspension, known_in, Stands, callers_of}
 use Rattle.ada_sound.proofs.Fits.{Fit, Outsiders, IsPlace, IsRelied, IsSaid, IsUnreferred, IsOwnedOutside, component_access, none_spared, outer_hold, outer_value, place_at, Reference, IsReferred}
 use Rattle.ada_sound.proofs.Allowance.{Allowance, allowance_of}
+use Rattle.ada_sound.proofs.CopiedOwners.{CopyLeft, owners_left}
 use Rattle.ada_sound.proofs.FrugalControl.{FrugalOperated, Frugally, IsInside, operated_in}
 use Rattle.ada_sound.proofs.Held.{FreeIf, holder_if}
-use Rattle.ada_sound.proofs.Invariant.{SparesHolder, body_among, CoveredIn, Control, Rooms, Roomed, GoesTo, MayAwait, RoomFor, RunsOn, Known, IsNewest, Ready, Spares, StartsTo, Unaliased, departs, below, innermost, outers, BeginsWell, CameOut, To, By, ways, IsAwaited, under_in, AssignsWell, IsCopied, LiesAmong, AdjustedBehind, IsCovered, EndsWellBy}
+use Rattle.ada_sound.proofs.Invariant.{AdjustsAside, SparesHolder, body_among, CoveredIn, Control, Rooms, Roomed, GoesTo, MayAwait, RoomFor, RunsOn, Known, IsNewest, Ready, Spares, StartsTo, Unaliased, departs, below, innermost, outers, BeginsWell, CameOut, To, By, ways, IsAwaited, under_in, AssignsWell, IsCopied, LiesAmong, AdjustedBehind, IsCovered, EndsWellBy}
 use Rattle.ada_sound.proofs.Operating.{WaitsFor, IsCalm, lets_out}
 use Rattle.ada_sound.proofs.Stored.{Stored}
 use Rattle.ada_sound.specs.Agreement.{running_procedure}
@@ -236,11 +238,33 @@ RestsBy known (Assigning number) held watch object access home places operands a
 RestsBy known (Undoing number) held watch object access home places operands also after lower rooms holds =
     (also ≡ []) × RestsAsOwned known held watch object access home places after lower rooms holds
 
+-- What is behind a body that begins a part of the object: a new one, or a copy, which stays as it is.
+abbrev pub BeginsBy : Known → Birth → (held : Bool) → (object : Id) → (access : ℕ) → (places operands : List Value) → (also : List Reference) → (after : Control) → Rooms → Holds → Type 0
+BeginsBy known Creation held object access places operands also after rooms holds =
+    ((also ≡ []) × Starting known held object access places after rooms holds) ⊎ Naming known held object access places operands also after rooms holds
+BeginsBy known Copy held object access places operands also after rooms holds = (also ≡ [])
+BeginsBy known (Adjustment number) held object access places operands also after rooms holds = (also ≡ [])
+
 -- What is behind the body, by what it is called for, which is held for it or not; what is watched; and to which other objects the activation that waits refers.
 abbrev pub Rests : Known → Treatment → (held : Bool) → (watch : Option Watch) → (object : Id) → (access : ℕ) → Home → (places operands : List Value) → (also : List Reference) → (after : Control) → (lower : List Master) → Rooms → Holds → Type 0
-Rests known (begins by done) held watch object access home places operands also after lower rooms holds =
-    (by ≡ Creation) × (((also ≡ []) × Starting known held object access places after rooms holds) ⊎ Naming known held object access places operands also after rooms holds)
+Rests known (begins by done) held watch object access home places operands also after lower rooms holds = BeginsBy known by held object access places operands also after rooms holds
 Rests known (ends cause) held watch object access home places operands also after lower rooms holds = RestsBy known cause held watch object access home places operands also after lower rooms holds
+
+-- What is behind the Adjust of a part of a copy (7.6): of the record that was copied these parts are left, which are adjusted next, and none of them has a
+-- component of an access type that is to be adjusted; then what is left goes on. Of what these Adjusts may free there is no alias.
+pub record Adjusts (known : Known) (access : ℕ) (tasks : List Task) (after : Control) (rooms : Rooms) (holds : Holds) : Type 0 where
+  pub record_type : ℕ
+  pub left : CopyLeft known.program.types access record_type tasks
+  pub none : owners_left known.program.types access tasks ≡ []
+  pub runs : RunsOn known after rooms holds
+  pub aside : AdjustsAside known access record_type holds
+
+-- So it is where the body is that of an Adjust.
+abbrev pub AdjustsBy : Known → Treatment → (access : ℕ) → (tasks : List Task) → (after : Control) → Rooms → Holds → Type 0
+AdjustsBy known (begins Creation done) access tasks after rooms holds = Unit {0}
+AdjustsBy known (begins Copy done) access tasks after rooms holds = Adjusts known access tasks after rooms holds
+AdjustsBy known (begins (Adjustment number) done) access tasks after rooms holds = Adjusts known access tasks after rooms holds
+AdjustsBy known (ends cause) access tasks after rooms holds = Unit {0}
 
 -- What is known of the activation that waits, whatever the body is called for: the object has controlled parts, or is a declared one; and what each variable
 -- holds is as it is said of it.
@@ -270,9 +294,11 @@ ended_frees implicit (Assigning number) access (Copies first record_type ∷ k) 
 ended_frees implicit (Assigning number) access (f ∷ k) t = true
 ended_frees implicit (Undoing number) access k t = implicit.end_frees access t
 
--- What the operations that such a treatment calls may free (7.6, 7.6.1).
+-- What the operations that such a treatment calls may free (7.6, 7.6.1); what the Adjusts of a copy may free is known of the record that was copied.
 abbrev pub treated_frees : Implicit → Treatment → (access : ℕ) → (behind : Control) → ℕ → Bool
-treated_frees implicit (begins by done) access k t = implicit.start_frees access t
+treated_frees implicit (begins Creation done) access k t = implicit.start_frees access t
+treated_frees implicit (begins Copy done) access k t = false
+treated_frees implicit (begins (Adjustment number) done) access k t = false
 treated_frees implicit (ends cause) access k t = ended_frees implicit cause access k t
 
 -- While a Free ends an object, the one that is watched, if there is one, is there as it was, and is another one; the end of the object reaches none of its
@@ -339,10 +365,12 @@ abbrev pub holding : (held : Bool) (procedure : Option ℕ) (places : List Value
 holding held procedure places treatment object access also place behind lower kept rooms holds =
     record (resting procedure places treatment object access also place behind lower kept rooms holds) { held = holder_if held object access }
 
--- What the body of such an operation may free: for an object that is finalized, what its end may free; for one that is initialized, whatever is owned by the
--- bodies that run then.
+-- What the body of such an operation may free: for an object that is finalized, what its end may free; for a copy, what its adjustment may free; for one that
+-- is initialized, whatever is owned by the bodies that run then.
 abbrev pub CoversBy : ProgramForm → Treatment → (access freed : ℕ) → Type 0
-CoversBy p (begins by done) access t = Unit {0}
+CoversBy p (begins Creation done) access t = Unit {0}
+CoversBy p (begins Copy done) access t = (implicit_of p).adjust_frees access t ≡ true
+CoversBy p (begins (Adjustment number) done) access t = (implicit_of p).adjust_frees access t ≡ true
 CoversBy p (ends cause) access t = (implicit_of p).end_frees access t ≡ true
 
 -- The body of such an operation runs, or one that it has called, or the operation of an object that one of these frees or allocates: `depth` activations wait
@@ -380,6 +408,7 @@ pub record Pause (program : Program) (depth : ℕ) (s : State) : Type 0 where
   pub watch : Option Watch
   pub still : Watched program watch behind lower s
   pub rests : Rests (known_in program procedure suspensions) treatment held watch object access home places operands also after lower rooms holds
+  pub adjusts : AdjustsBy (known_in program procedure suspensions) treatment access tasks after rooms holds
   pub lets : (e : Exception) → body_among (implicit_of (program_form program)) (seen_in (Some number) (program_form program)) e ≡ true → lets_out (implicit_of (program_form program)) access treatment e ≡ true
 
 -- The activation that waits for the operation.

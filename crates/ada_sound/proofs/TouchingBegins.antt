@@ -40,7 +40,7 @@ use Rattle.ada_sound.proofs.Bodies.{IsBody, seen_is}
 use Rattle.ada_sound.proofs.BodyRuns.{body_runs}
 use Rattle.ada_sound.proofs.Calls.{home_low, relied_says}
 use Rattle.ada_sound.proofs.Callers.{Suspension, caller_of, known_in, Stands}
-use Rattle.ada_sound.proofs.Touching.{CoversBy, Enters, Pause, Rests, under_way, Watched, holding, origin}
+use Rattle.ada_sound.proofs.Touching.{AdjustsBy, CoversBy, Enters, Pause, Rests, under_way, Watched, holding, origin}
 use Rattle.ada_sound.proofs.SparesOwn.{spares_end}
 use Rattle.ada_sound.specs.Agreement.{running_procedure}
 use Rattle.ada_sound.specs.Always.{SparesOwn}
@@ -56,7 +56,7 @@ use Rattle.ada_quiet.specs.Apart.{is_tracker}
 use Rattle.ada_sound.proofs.Stored.{stored_entered, IsUnder}
 use Rattle.ada_sound.proofs.Waiting.{stands_kept}
 use Rattle.ada_program.specs.declared.program.Exception.{Exception}
-use Rattle.ada_meaning.specs.declared.event.Birth.{Birth}
+use Rattle.ada_meaning.specs.declared.event.Birth.TheVariants.{Creation, Copy, Adjustment}
 use Rattle.ada_meaning.specs.declared.event.Cause.{Cause}
 use Rattle.ada_meaning.specs.declared.event.Cause.TheVariants.{Leaving, Freeing, Assigning, Undoing}
 use Rattle.ada_parts.specs.Part as parts
@@ -168,8 +168,8 @@ module _ (program : Program) (well : IsWellFormed (program_form program)) (obeys
       let now : Fit (seen_by number b p).types (seen_by number b p).variables (outers body) none_spared heap begins first = rw same at begun_fit in
       rw (seen_as p number b there) now
 
-  -- What the body may free, the treatment of the object may. It may not free the object itself: the end of an object frees none of its own type, and one that is
-  -- initialized is owned outside of the body.
+  -- What the body may free, the treatment of the object may. It may not free the object itself: the end of an object frees none of its own type, nor does its
+  -- adjustment, and one that is initialized is owned outside of the body.
   module _ (frees : (t : ℕ) → CoveredIn (implicit_of p) own t → at.may t ≡ true) (covers_by : (t : ℕ) → CoveredIn (implicit_of p) own t → CoversBy p treatment x.cell.access t) (lets : (e : Exception) → body_among (implicit_of p) own e ≡ true → lets_out (implicit_of p) x.cell.access treatment e ≡ true) where
     -- An object that is finalized is of no type that the body may free.
     other_type : (cause : Cause) → treatment ≡ frame.ends cause → (t : ℕ) → CoveredIn (implicit_of p) own t → is_access known.program.types t ≡ true → x.cell.access ≡ t → ⊥
@@ -180,10 +180,22 @@ module _ (program : Program) (well : IsWellFormed (program_form program)) (obeys
         let freed : (implicit_of p).end_frees t t ≡ true = rw same at ended in
         cc (spared, freed)
 
+    -- Nor is one that is adjusted.
+    abbrev AdjustsOwn : Treatment → Type 0
+    AdjustsOwn by = (t : ℕ) → CoversBy p by x.cell.access t → (implicit_of p).adjust_frees x.cell.access t ≡ true
+
+    other_copy : (by : Treatment) → treatment ≡ by → AdjustsOwn by → (t : ℕ) → CoveredIn (implicit_of p) own t → is_access known.program.types t ≡ true → x.cell.access ≡ t → ⊥
+    other_copy by is adjusts t covered access same =
+        let accessed : is_access p.types t ≡ true = subst (λ (types : List TypeForm). is_access types t ≡ true) (same_types a.procedure p) access in
+        let adjusted : (implicit_of p).adjust_frees x.cell.access t ≡ true = adjusts t (subst (λ (way : Treatment). CoversBy p way x.cell.access t) is (covers_by t covered)) in
+        let spared = (spares_end p spares_own t accessed).1 in
+        let freed : (implicit_of p).adjust_frees t t ≡ true = rw same at adjusted in
+        cc (spared, freed)
+
     -- One that is initialized is owned outside of the body.
-    owned_now : (by : Birth) (done : List parts.Part) → treatment ≡ frame.begins by done → IsOwnedOutside (outers body) o
-    owned_now by done is =
-        begun_owned known by done at.held at.watch o x.cell.access x.cell.home a.places a.operands at.also k s.masters at.rooms at.holds known.program.variables
+    owned_now : (done : List parts.Part) → treatment ≡ frame.begins Creation done → IsOwnedOutside (outers body) o
+    owned_now done is =
+        begun_owned known done at.held at.watch o x.cell.access x.cell.home a.places a.operands at.also k s.masters at.rooms at.holds known.program.variables
         (outers known).suspended
         (subst (λ (way : Treatment). Rests known way at.held at.watch o x.cell.access x.cell.home a.places a.operands at.also k s.masters at.rooms at.holds) is at.rests)
 
@@ -204,7 +216,9 @@ module _ (program : Program) (well : IsWellFormed (program_form program)) (obeys
         by_reference p' (inl (same, of)) access = subst (IsOwnedOutside (outers body)) same (by treatment refl)
           where
             by : (way : Treatment) → treatment ≡ way → IsOwnedOutside (outers body) o
-            by (frame.begins how done) way = owned_now how done way
+            by (frame.begins Creation done) way = owned_now done way
+            by (frame.begins Copy done) way = absurd (other_copy (frame.begins Copy done) way (λ u covers. covers) t may' access of)
+            by (frame.begins (Adjustment n) done) way = absurd (other_copy (frame.begins (Adjustment n) done) way (λ u covers. covers) t may' access of)
             by (frame.ends cause) way = absurd (other_type cause way t may' access of)
         by_reference p' (inr is) access = owned_behind program waiting gs p' (by (referred_split at.also (outers known).referenced p' t is))
           where
@@ -251,10 +265,10 @@ module _ (program : Program) (well : IsWellFormed (program_form program)) (obeys
     under_low (frame.ends (Undoing number)) q (inl same) = rw (← same) object_low
     under_low (frame.ends (Undoing number)) q (inr none) = absurd none
 
-    pub touching_begins : (e : Event) (of : ℕ) (tasks : List Task) → Alters s.heap e heap → WaitsFor (program_form program).types o of treatment tasks k behind → IsAwaited behind → Stands program gs (record s { activations = a ∷ rest })
+    pub touching_begins : (e : Event) (of : ℕ) (tasks : List Task) → AdjustsBy known treatment x.cell.access tasks k at.rooms at.holds → Alters s.heap e heap → WaitsFor (program_form program).types o of treatment tasks k behind → IsAwaited behind → Stands program gs (record s { activations = a ∷ rest })
         → Watched program at.watch behind s.masters (operating named number b (Part o place) behind (record s { activations = a ∷ rest; heap = heap; mode = Running }))
         → (begun : Begun program gs treatment behind s.masters (operating named number b (Part o place) behind (record s { activations = a ∷ rest; heap = heap; mode = Running }))) × (begun.pause.object ≡ o) × (begun.pause.after ≡ k)
-    touching_begins e of tasks alters awaited waited stands watched =
+    touching_begins e of tasks adjusts alters awaited waited stands watched =
         let before = record s { activations = a ∷ rest; heap = heap; mode = Running } in
         let after = operating named number b (Part o place) behind before in
         let still = stands_kept program (record s { activations = a ∷ rest }) (behind_operation (a ∷ rest) behind s.masters after) gs stands e (record { procedure = refl; suspended = refl }) alters in (
@@ -292,6 +306,7 @@ module _ (program : Program) (well : IsWellFormed (program_form program)) (obeys
               watch = at.watch;
               still = watched;
               rests = at.rests;
+              adjusts = adjusts;
               lets = lets;
             };
             suspensions = refl;

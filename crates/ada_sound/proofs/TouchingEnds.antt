@@ -43,9 +43,10 @@ use Rattle.ada_sound.proofs.Callers.{rest_of, Suspension, caller_of, known_in, S
 use Rattle.ada_sound.proofs.Emptying.{null_again}
 use Rattle.ada_sound.proofs.FrugalControl.{MayBegin}
 use Rattle.ada_sound.proofs.Held.{fit_unheld, held_alone, holder_if, unnamed_hand, with_held}
-use Rattle.ada_sound.proofs.Touching.{AwaitsAmong, Departs, IsNamedNowhere, Pause, Empties, Resting, Rests, RestsAsOwned, RestsAtEnd, Starting, Naming, under_way, Undoes, origin, Overwrites, Releases, RestsBy, StoresInto, Watch, Watched}
+use Rattle.ada_sound.proofs.NoneHidden.{blanked_none}
+use Rattle.ada_sound.proofs.Touching.{Adjusts, AdjustsBy, AwaitsAmong, Departs, IsNamedNowhere, Pause, Empties, Resting, Rests, RestsAsOwned, RestsAtEnd, Starting, Naming, under_way, Undoes, origin, Overwrites, Releases, RestsBy, StoresInto, Watch, Watched}
 use Rattle.ada_sound.proofs.Fits.{Fit, Hand, hold_in, place_at, is_object, stacked, none_spared, plain_place, put_owner, sparing, outer_hold, outer_value_at, spare_fit, weaker_fit, IsReferred, Reference, component_access, component_value, referred_first, store_blank, store_owner}
-use Rattle.ada_sound.proofs.Invariant.{SparesHolder, AllWait, Control, Known, Rooms, GoesOn, Working, Ending, EndsTo, ReadyIn, TreatsBy, innermost, outer_of, outers, IsLive, Beginning, StartsTo, BeginsWell, Ready, IsActive, AreSuspended, CopiesBehind, EndsBy, LiesIn, StoresBehind, FreesWell, IsCovered, EndsWellBy, AwaitsIn, GoesTo, HasRoom, IsHolder, IsMade, Making, NamesTo, RoomFor, To, RunsOn}
+use Rattle.ada_sound.proofs.Invariant.{AdjustsTo, SparesHolder, AllWait, Control, Known, Rooms, GoesOn, Working, Ending, EndsTo, ReadyIn, TreatsBy, innermost, outer_of, outers, IsLive, Beginning, StartsTo, BeginsWell, Ready, IsActive, AreSuspended, CopiesBehind, EndsBy, LiesIn, StoresBehind, FreesWell, IsCovered, EndsWellBy, AwaitsIn, GoesTo, HasRoom, IsHolder, IsMade, Making, NamesTo, RoomFor, To, RunsOn}
 use Rattle.ada_sound.proofs.Operating.{behind_operation, lets_out, WaitsFor}
 use Rattle.ada_sound.proofs.Waiting.{stands_behind}
 use Rattle.ada_sound.proofs.Returns.{CrossesTo, same_types}
@@ -540,6 +541,27 @@ module _ (program : Program) (well : IsWellFormed (program_form program)) (s : S
         },
       )
 
+  -- The object is a copy: the parts that are left are adjusted next, and nothing of it is hidden.
+  adjusting_treats : (r : Adjusts own f.access f.tasks f.after f.rooms f.holds) → Stored (outers own).under s.heap f.lower → AdjustsTo own (Names f.object) f.tasks f.after s.heap f.places f.lower
+  adjusting_treats r stored = record {
+    o = f.object;
+    is = refl;
+    x = f.x;
+    found = f.found;
+    there = rw exists_still refl;
+    record_type = r.record_type;
+    left = rw f.of_access r.left;
+    named = rw (f.of_access, r.none) tt;
+    works = rw (f.of_access, r.none, blanked_none f.object s.heap) (record {
+      rooms = f.rooms;
+      holds = f.holds;
+      stored = stored;
+      roomed = f.waits.roomed;
+      fit = own_fit;
+      rest = (r.runs, r.aside);
+    });
+  }
+
   ends_by : (cause : Cause) → f.treatment ≡ ends cause → RestsBy own cause f.held f.watch f.object f.access f.home f.places f.operands f.also f.after f.lower f.rooms f.holds → EndsBy own (Names f.object) cause f.after s.heap f.places b.operands f.lower
   ends_by (Leaving m item) is (none_also, r) = owned_ends (Leaving m item) tt is r
   ends_by (Freeing number) is (none_also, r) = owned_ends (Freeing number) tt is r
@@ -547,14 +569,16 @@ module _ (program : Program) (well : IsWellFormed (program_form program)) (s : S
   ends_by (Undoing number) is (none_also, r) = owned_ends (Undoing number) tt is r
 
   treats_by : (treatment : Treatment) → f.treatment ≡ treatment → Rests own treatment f.held f.watch f.object f.access f.home f.places f.operands f.also f.after f.lower f.rooms f.holds → TreatsBy own (Names f.object) treatment f.tasks f.after s.heap f.places b.operands f.lower
-  treats_by (begins Creation done) is (creation, inl (none_also, r)) =
+  treats_by (begins Creation done) is (inl (none_also, r)) =
       let b = beginning done is r in (
         inl b,
         (own_stored (begins Creation done) is, λ e raises. beginning_undone own (Names f.object) f.after s.heap f.places f.lower b e raises),
       )
-  treats_by (begins Creation done) is (creation, inr r) = making_treats done is r
-  treats_by (begins Copy done) is (creation, r) = absurd (cc creation)
-  treats_by (begins (Adjustment number) done) is (creation, r) = absurd (cc creation)
+  treats_by (begins Creation done) is (inr r) = making_treats done is r
+  treats_by (begins Copy done) is r =
+      adjusting_treats (subst (λ (by : Treatment). AdjustsBy own by f.access f.tasks f.after f.rooms f.holds) is f.adjusts) (own_stored (begins Copy done) is)
+  treats_by (begins (Adjustment number) done) is r =
+      adjusting_treats (subst (λ (by : Treatment). AdjustsBy own by f.access f.tasks f.after f.rooms f.holds) is f.adjusts) (own_stored (begins (Adjustment number) done) is)
   treats_by (ends cause) is r = ends_by cause is r
 
   live : IsLive s.heap (Names f.object)

@@ -592,7 +592,7 @@ module _ (known : Known) (o : Id) (x : Object) (heap : List Object) (found : obj
     hand = hand;
     watch = None;
     spared = tt;
-    rests = (refl, behind);
+    rests = behind;
     fit = fit;
     stored = stored;
     may = known.implicit.start_frees x.cell.access;

@@ -489,12 +489,26 @@ module _ (program : Program) (spares : SparesOwn program) (s : State) where
       let none = (spares_end p spares t of).0 in
       cc (none, same, may)
 
+  -- Nor is what the body of an Adjust may free.
+  adjusts_other : (depth : ℕ) (f : Pause program depth s) (by : Treatment) → f.treatment ≡ by → ((u : ℕ) → CoversBy p by f.access u → (implicit_of p).adjust_frees f.access u ≡ true)
+      → (t : ℕ) → Covers (Some f.number) t → is_access p.types t ≡ true → t ≡ f.access → ⊥
+  adjusts_other depth f by is adjusts t covered of same =
+      let may : (implicit_of p).adjust_frees f.access t ≡ true = adjusts t (subst (λ (treatment : Treatment). CoversBy p treatment f.access t) is (f.covers t covered)) in
+      let none = (spares_end p spares t of).1 in
+      cc (none, same, may)
+
   -- So it is of the object.
   pub frees_not : (depth : ℕ) (f : Pause program depth s) (cause : Cause) → f.treatment ≡ ends cause → (o : Id) (x : Object) → object_at s.heap o ≡ Some x → f.object ≡ o
       → Covers (Some f.number) x.cell.access → is_access p.types x.cell.access ≡ true → ⊥
   frees_not depth f cause is o x found same covered of =
       let one : x ≡ f.x = let here = f.found in cc (same, here, found) in
       frees_other depth f cause is x.cell.access covered of (ap (λ (y : Object). y.cell.access) one ∙ f.of_access)
+
+  adjusts_not : (depth : ℕ) (f : Pause program depth s) (by : Treatment) → f.treatment ≡ by → ((u : ℕ) → CoversBy p by f.access u → (implicit_of p).adjust_frees f.access u ≡ true)
+      → (o : Id) (x : Object) → object_at s.heap o ≡ Some x → f.object ≡ o → Covers (Some f.number) x.cell.access → is_access p.types x.cell.access ≡ true → ⊥
+  adjusts_not depth f by is adjusts o x found same covered of =
+      let one : x ≡ f.x = let here = f.found in cc (same, here, found) in
+      adjusts_other depth f by is adjusts x.cell.access covered of (ap (λ (y : Object). y.cell.access) one ∙ f.of_access)
 
   -- An object that may be freed, and is not owned outside, is not the one of an operation: what is initialized is owned outside.
   operated_not : (depth : ℕ) (f : Pause program depth s) (others : List Suspension) (o : Id) (x : Object) → object_at s.heap o ≡ Some x
@@ -503,8 +517,10 @@ module _ (program : Program) (spares : SparesOwn program) (s : State) where
   operated_not depth f others o x found inside same covered of = by f.treatment refl
     where
       by : (treatment : Treatment) → f.treatment ≡ treatment → ⊥
-      by (begins birth done) is =
-          inside (subst (IsOwnedAmong (outer_in (callers_of program (origin program depth s f ∷ others)))) same (begun_outside program depth s f birth done is others))
+      by (begins Creation done) is =
+          inside (subst (IsOwnedAmong (outer_in (callers_of program (origin program depth s f ∷ others)))) same (begun_outside program depth s f done is others))
+      by (begins Copy done) is = adjusts_not depth f (begins Copy done) is (λ u covers. covers) o x found same covered of
+      by (begins (Adjustment number) done) is = adjusts_not depth f (begins (Adjustment number) done) is (λ u covers. covers) o x found same covered of
       by (ends cause) is = frees_not depth f cause is o x found same covered of
 
   -- An object that is under way in an activation that waits for the operation is the one of the operation.
@@ -887,7 +903,7 @@ module _ (program : Program) (s : State) (grounds : Grounds program s) (gs : Lis
     by_frame (frame.Treats v treatment tasks) k ms runs is (inr (inl leaving)) forms = treated v treatment tasks k runs is leaving.1.0.3 forms
     by_frame (frame.Treats v (begins birth done) tasks) k ms runs is (inr (inr (may, (inl fresh, q)))) forms = treated v (begins birth done) tasks k runs is fresh.2 forms
     by_frame (frame.Treats v (begins Creation done) tasks) k ms runs is (inr (inr (may, (inr adjusting, q)))) forms = absurd adjusting.0
-    by_frame (frame.Treats v (begins Copy done) tasks) k ms runs is (inr (inr (may, (inr adjusting, q)))) forms = absurd adjusting.0
+    by_frame (frame.Treats v (begins Copy done) tasks) k ms runs is (inr (inr (may, (inr adjusting, q)))) forms = treated v (begins Copy done) tasks k runs is adjusting.1.2 forms
     by_frame (frame.Treats v (begins (Adjustment number) done) tasks) k ms runs is (inr (inr (may, (inr adjusting, q)))) forms = adjusted v number done tasks k runs is forms
     by_frame (frame.Treats v (ends (Leaving m item)) tasks) k ms runs is (inr (inr (may, (ending, q)))) forms = absurd ending.0
     by_frame (frame.Treats v (ends (Freeing number)) tasks) k ms runs is (inr (inr (may, (ending, q)))) forms = absurd ending.0

@@ -8,6 +8,7 @@ use Rattle.std.specs.Option.{option_map}
 use Rattle.std.proofs.lemmas.Option.{slice_get-map}
 use Rattle.ada_deeds.specs.Implicit.{implicit_of}
 use Rattle.ada_effects.specs.Effects.{assignment_frees}
+use Rattle.ada_flow.specs.Flow.{Holds}
 use Rattle.ada_finalized.specs.Law.{NoOperationRuns, NoOperationRunsOn, NothingBegins}
 use Rattle.ada_finalized.proofs.Standing.{AdjustsAlone, nothing_begins}
 use Rattle.ada_parts.specs.Task.{Task}
@@ -18,7 +19,7 @@ use Rattle.ada_program.specs.WellFormed.{finalization_of, is_access, variable_ki
 use Rattle.ada_quiet.specs.Bare.{collections_in_order, has_bare_objects}
 use Rattle.ada_quiet.specs.Frugal.{is_frugal_body, thrift_of}
 use Rattle.ada_quiet.specs.Idle.{makes_parts}
-use Rattle.ada_quiet.specs.InUse.{may_be_frugal, operations_may_be_called}
+use Rattle.ada_quiet.specs.InUse.{may_be_frugal, operations_may_be_called, tracks_nothing}
 use Rattle.ada_meaning.specs.declared.event.Birth.{Birth}
 use Rattle.ada_meaning.specs.declared.event.Birth.TheVariants.{Creation, Copy, Adjustment}
 use Rattle.ada_program.specs.declared.program.Exception.{Exception}
@@ -47,20 +48,21 @@ use Rattle.ada_sound.proofs.Allowance.{allowance_of, body_thrifty}
 use Rattle.ada_sound.proofs.Alters.{Alters}
 use Rattle.ada_sound.proofs.Callers.{Suspension, known_in, Stands, callers_of}
 use Rattle.ada_sound.proofs.FrugalControl.{Frugally, IsEnded, IsLeft, frugal_starts}
-use Rattle.ada_sound.proofs.Touching.{CoversBy, Enters, Touching, origin}
+use Rattle.ada_sound.proofs.Touching.{AdjustsBy, CoversBy, Enters, Touching, origin}
+use Rattle.ada_sound.proofs.TouchingCopies.{Entered, adjusts_free, assigned_enters, declared_enters}
 use Rattle.ada_sound.proofs.Trackers.{touches_apart}
 use Rattle.ada_sound.proofs.TouchingBegins.{Begun, IsAlone, alone, touching_begins}
 use Rattle.ada_sound.proofs.TouchingRests.{IsEnd, assigns_by, at_start, ends_by}
 use Rattle.ada_sound.proofs.Fits.{IsWithin, access_is}
-use Rattle.ada_sound.proofs.AssignedParts.{treated_frees_of, IsAssignedBehind}
+use Rattle.ada_sound.proofs.AssignedParts.{treated_frees_of, IsAssignedBehind, IsStartOrEnd}
 use Rattle.ada_sound.proofs.BareObjects.{allocated_is_bare, operable_is_not_bare}
-use Rattle.ada_sound.proofs.QuietOperations.{MayTouch, TouchesStorage}
+use Rattle.ada_sound.proofs.QuietOperations.{AdjustsCopy, MayTouch, TouchesStorage}
 use Rattle.ada_sound.proofs.CalmObjects.{calm_finalize, calm_initialize}
 use Rattle.ada_quiet.specs.Calm.{are_calm_in}
 use Rattle.ada_sound.proofs.Items.{Houses}
 use Rattle.ada_sound.proofs.FrugalUseEnds.{ends_free, ends_in_starts}
 use Rattle.ada_sound.proofs.OperationsLet.{touches_let}
-use Rattle.ada_sound.proofs.Invariant.{Control, CopiesBehind, CoveredIn, EndsTo, IsCopied, Known, TreatsBy, body_among, under_in, LiesAmong}
+use Rattle.ada_sound.proofs.Invariant.{Control, CopiesBehind, CoveredIn, EndsTo, IsCopied, Known, Rooms, TreatsBy, body_among, under_in, LiesAmong}
 use Rattle.ada_sound.proofs.Operated.{OperatedAs}
 use Rattle.ada_sound.proofs.Operating.{IsCalled, IsCalm, lets_out, WaitsFor}
 use Rattle.ada_sound.proofs.OperationBegins.{formal_holds, formal_within}
@@ -89,11 +91,16 @@ kept_type before heap e o x access alters found (cell, at, of) = by (object_at b
         kept ∙ (ap (λ (c : Cell Value). c.access) cells ∙ of)
 
 -- The operation of a controlled type that a treatment calls, by its number (7.6).
-operation_for : (program : Program) → IsWellFormed (program_form program) → (of number : ℕ) (treatment : Treatment) → MayTouch treatment → IsCalled (operations_of program.types.items of) treatment number → OperationFor (program_form program) of number
-operation_for program well of number (begins Creation done) may called = beginning_for (program_form program) program.types.items refl well.operations_fit Creation of number called
-operation_for program well of number (begins Copy done) may called = absurd may
-operation_for program well of number (begins (Adjustment n) done) may called = absurd may
-operation_for program well of number (ends cause) may called = ending_for (program_form program) program.types.items refl well.operations_fit of number called
+operation_for : (program : Program) → IsWellFormed (program_form program) → (of number : ℕ) (treatment : Treatment) → IsCalled (operations_of program.types.items of) treatment number → OperationFor (program_form program) of number
+operation_for program well of number (begins by done) called = beginning_for (program_form program) program.types.items refl well.operations_fit by of number called
+operation_for program well of number (ends cause) called = ending_for (program_form program) program.types.items refl well.operations_fit of number called
+
+-- Nothing of it is left to be adjusted where something is initialized or finalized.
+none_adjusts : (known : Known) (by : Treatment) (access : ℕ) (tasks : List Task) (k : Control) (rooms : Rooms) (holds : Holds) → IsStartOrEnd by → AdjustsBy known by access tasks k rooms holds
+none_adjusts known (begins Creation done) access tasks k rooms holds start = tt
+none_adjusts known (begins Copy done) access tasks k rooms holds start = absurd start
+none_adjusts known (begins (Adjustment n) done) access tasks k rooms holds start = absurd start
+none_adjusts known (ends cause) access tasks k rooms holds start = tt
 
 -- Where an object ends behind this, nothing of it begins there.
 abbrev pub IsLoneEnd : Value → Control → Type 0
@@ -198,7 +205,7 @@ module _ (program : Program) (a : Activation Value) (rest : List (Activation Val
           ends_by known o x heap found is_of a.places a.operands s.masters not_bare fits_here goes_ahead touches (ends_in_starts p) cause end k treats
           (λ w behind at. subst (λ (u : Value). NothingBegins u behind) named (alone w behind at))
 
-      enters : (by : Treatment) (left : List Task) → IsLoneBehind v by k → MayTouch by → TreatsBy known (Names o) by left k heap a.places a.operands s.masters → Enters known by o x k heap a.places a.operands s.masters
+      enters : (by : Treatment) (left : List Task) → IsLoneBehind v by k → IsStartOrEnd by → TreatsBy known (Names o) by left k heap a.places a.operands s.masters → Enters known by o x k heap a.places a.operands s.masters
       enters (begins Creation done) left alone may' treats = at_start known o x heap found is_of a.places a.operands s.masters not_bare fits_here touches done left k treats
       enters (begins Copy done) left alone may' treats = absurd may'
       enters (begins (Adjustment n) done) left alone may' treats = absurd may'
@@ -210,11 +217,11 @@ module _ (program : Program) (a : Activation Value) (rest : List (Activation Val
       enters (ends (Undoing number)) left alone may' treats = ends_for (Undoing number) tt alone treats
 
     -- The object is not calm: for calm ones an Initialize is plain, and a Finalize quiet.
-    other_object : (access of part number : ℕ) (b : BodyForm) (by : Treatment) → IsOperable p.types access of part → MayTouch by → IsCalled (operations_of program.types.items of) by number
+    other_object : (access of part number : ℕ) (b : BodyForm) (by : Treatment) → IsOperable p.types access of part → IsStartOrEnd by → IsCalled (operations_of program.types.items of) by number
         → slice_get (body_forms program) number ≡ Some b → TouchesStorage p by b → are_calm_in p access ≡ false
     other_object access of part number b by operable may called there touches = go (are_calm_in p access) refl by may called touches
       where
-        go : (calm' : Bool) → are_calm_in p access ≡ calm' → (treated : Treatment) → MayTouch treated → IsCalled (operations_of program.types.items of) treated number
+        go : (calm' : Bool) → are_calm_in p access ≡ calm' → (treated : Treatment) → IsStartOrEnd treated → IsCalled (operations_of program.types.items of) treated number
             → TouchesStorage p treated b → are_calm_in p access ≡ false
         go false none treated may' called' touches' = none
         go true is_calm (begins Creation done) may' called' touches' =
@@ -224,25 +231,77 @@ module _ (program : Program) (a : Activation Value) (rest : List (Activation Val
         go true is_calm (ends cause) may' called' touches' =
             let quiet = calm_finalize program grounds.well access of part number b operable is_calm called' there in absurd (cc (quiet, touches'))
 
-    -- What the body may free that finalizes the object, the end of that may free.
-    covers_by : (access of part number : ℕ) (b : BodyForm) (by : Treatment) → IsOperable p.types access of part → MayTouch by
+    -- What the body may free that finalizes the object, the end of that may free; and what the body of an Adjust may free, the adjustment may.
+    covers_by : (access of part number : ℕ) (b : BodyForm) (by : Treatment) → IsOperable p.types access of part
         → IsCalled (operations_of program.types.items of) by number → slice_get (body_forms program) number ≡ Some b → (t : ℕ) → CoveredIn (implicit_of p) (seen_in (Some number) p) t
         → CoversBy p by access t
-    covers_by access of part number b (begins birth done) operable may' called there t covered = tt
-    covers_by access of part number b (ends cause) operable may' called there t covered = ends_free program grounds.well access of part number b operable called there t covered
+    covers_by access of part number b (begins Creation done) operable called there t covered = tt
+    covers_by access of part number b (begins Copy done) operable called there t covered = adjusts_free program grounds.well access of part number b operable called there t covered
+    covers_by access of part number b (begins (Adjustment n) done) operable called there t covered = adjusts_free program grounds.well access of part number b operable called there t covered
+    covers_by access of part number b (ends cause) operable called there t covered = ends_free program grounds.well access of part number b operable called there t covered
+
+    -- What waits for the body where it begins.
+    module _ (may : may_be_frugal p ≡ true) (made : makes_parts p ≡ true) (e : Event) (after : State) (c : Begins known a rest s program.types.items (body_forms program) k IsOperated e after) (stores : TouchesStorage p c.treatment c.b) where
+      -- A record of the type of the operation lies in the object.
+      of_type : c.x.cell.access ≡ c.operated.1.0
+      of_type = kept_type s.heap c.heap e c.o c.x c.operated.1.0 c.alters c.found c.operated.1.2
+
+      operable_there : IsOperable p.types c.x.cell.access c.of c.operated.1.1
+      operable_there = rw of_type (c.operated.1.3)
+
+      parted : has_bare_objects known.program.types c.x.cell.access ≡ false
+      parted =
+          subst (λ (types : List TypeForm). has_bare_objects types c.x.cell.access ≡ false) (sym (same_types a.procedure p))
+          (rw of_type (operable_is_not_bare program grounds.well c.operated.1.0 c.of c.operated.1.1 c.operated.1.3))
+
+      abbrev EnteredAs : Treatment → Type 0
+      EnteredAs by = Entered program known by c.number c.o c.x k c.heap a.places a.operands s.masters c.tasks
+
+      -- It initializes or finalizes.
+      starts_or_ends : IsStartOrEnd c.treatment → EnteredAs c.treatment
+      starts_or_ends start =
+          let not_calm : are_calm_in p c.x.cell.access ≡ false = rw of_type (other_object c.operated.1.0 c.of c.operated.1.1 c.number c.b c.treatment c.operated.1.3 start c.called c.there stores) in
+          let at = enters may made c.o c.x c.heap c.operated.3 c.found (access_is c.heap c.o c.x c.found (live_there c.x.stage c.live)) parted not_calm c.treatment c.tasks (rw c.operated.0 lone) start c.treats in
+          record {
+            at = at;
+            adjusts = none_adjusts known c.treatment c.x.cell.access c.tasks k at.rooms at.holds start;
+            frees = λ t covered.
+                at.includes t (treated_frees_of program grounds.well c.x.cell.access c.of c.operated.1.1 c.number c.b operable_there c.treatment k (rw (c.operated.0) (c.operated.2))
+                (copied_behind (Names c.o) c.treatment c.tasks k c.heap c.treats) start c.called c.there t covered);
+          }
+
+      -- Or it adjusts a part of a copy.
+      adjusts_copy : tracks_nothing p ≡ true → (by : Treatment) → c.treatment ≡ by → (copies : AdjustsCopy by) → EnteredAs by
+      adjusts_copy nothing (begins Creation done) is copies = absurd copies
+      adjusts_copy nothing (begins Copy done) is copies =
+          let part = c.adjusts Copy done is tt in
+          declared_enters program grounds.well nothing a.procedure gs c.o c.x c.heap c.found a.places a.operands s.masters k parted c.of part.0 c.tasks part.1 done c.number c.b c.there
+          (subst (λ (way : Treatment). IsCalled (operations_of program.types.items c.of) way c.number) is c.called)
+      adjusts_copy nothing (begins (Adjustment n) done) is copies =
+          let part = c.adjusts (Adjustment n) done is tt in
+          assigned_enters program grounds.well nothing a.procedure gs c.o c.x c.heap c.found a.places a.operands s.masters k parted c.of part.0 c.tasks part.1 n done c.number c.b c.there
+          (subst (λ (way : Treatment). IsCalled (operations_of program.types.items c.of) way c.number) is c.called)
+      adjusts_copy nothing (ends cause) is copies = absurd copies
+
+      entered_by : (by : Treatment) → c.treatment ≡ by → MayTouch p by → EnteredAs c.treatment
+      entered_by (begins Creation done) is touches = starts_or_ends (subst IsStartOrEnd (sym is) tt)
+      entered_by (begins Copy done) is touches = subst EnteredAs (sym is) (adjusts_copy touches.0 (begins Copy done) is tt)
+      entered_by (begins (Adjustment n) done) is touches = subst EnteredAs (sym is) (adjusts_copy touches.0 (begins (Adjustment n) done) is tt)
+      entered_by (ends cause) is touches = starts_or_ends (subst IsStartOrEnd (sym is) tt)
+
+      -- Whatever it does.
+      entered_there : MayTouch p c.treatment → EnteredAs c.treatment
+      entered_there touches = entered_by c.treatment refl touches
 
     -- So the body begins, for this object, in front of what is behind its treatment.
-    begins_so : operations_may_be_called p ≡ true → makes_parts p ≡ true → (e : Event) (after : State) (c : Begins known a rest s program.types.items (body_forms program) k IsOperated e after) → MayTouch c.treatment → may_be_frugal p ≡ true → is_frugal_body (thrift_of p) c.b ≡ true → TouchesStorage p c.treatment c.b
+    begins_so : operations_may_be_called p ≡ true → makes_parts p ≡ true → (e : Event) (after : State) (c : Begins known a rest s program.types.items (body_forms program) k IsOperated e after) → MayTouch p c.treatment → may_be_frugal p ≡ true → is_frugal_body (thrift_of p) c.b ≡ true → TouchesStorage p c.treatment c.b
         → typed.Typed p after → (begun : Begun program gs c.treatment c.behind s.masters after) × (begun.pause.object ≡ c.o) × (begun.pause.after ≡ k)
     begins_so uses made e after c touches may frugal stores typing =
         let operated = c.operated.1 in
-        let of_type : c.x.cell.access ≡ operated.0 = kept_type s.heap c.heap e c.o c.x operated.0 c.alters c.found operated.2 in
-        let operable : IsOperable p.types c.x.cell.access c.of operated.1 = rw of_type (operated.3) in
-        let parted : has_bare_objects p.types c.x.cell.access ≡ false = rw of_type (operable_is_not_bare program grounds.well operated.0 c.of operated.1 operated.3) in
-        let not_calm : are_calm_in p c.x.cell.access ≡ false = rw of_type (other_object operated.0 c.of operated.1 c.number c.b c.treatment operated.3 touches c.called c.there stores) in
-        let at : Enters known c.treatment c.o c.x k c.heap a.places a.operands s.masters =
-        enters may made c.o c.x c.heap c.operated.3 c.found (access_is c.heap c.o c.x c.found (live_there c.x.stage c.live)) (subst (λ (types : List TypeForm). has_bare_objects types c.x.cell.access ≡ false) (sym (same_types a.procedure p)) parted) not_calm c.treatment c.tasks (rw c.operated.0 lone) touches c.treats in
-        let operation = operation_for program grounds.well c.of c.number c.treatment touches c.called in
+        let operable : IsOperable p.types c.x.cell.access c.of operated.1 = operable_there may made e after c stores in
+        let entered : Entered program known c.treatment c.number c.o c.x k c.heap a.places a.operands s.masters c.tasks = entered_there may made e after c stores touches in
+        let at : Enters known c.treatment c.o c.x k c.heap a.places a.operands s.masters = entered.at in
+        let operation = operation_for program grounds.well c.of c.number c.treatment c.called in
         let body : operation.body ≡ c.b = let found = operation.there in let there = c.there in cc (found, there) in
         let single : IsAlone c.b = alone c.b operation.object (rw body at operation.formals) in
         let waits : WaitsFor p.types c.o c.of c.treatment c.tasks k c.behind = subst (λ (types : List TypeForm). WaitsFor types c.o c.of c.treatment c.tasks k c.behind) (same_types a.procedure p) c.waits in
@@ -252,16 +311,14 @@ module _ (program : Program) (a : Activation Value) (rest : List (Activation Val
         let own : typed.TypedIn (seen_by c.number c.b p) begun = rw (seen_as p c.number c.b c.there) at inside in
         let holds = formal_holds program c.number c.b c.o c.place begun (_, refl) c.x c.found own in
         let within : IsWithin p.types (variable_kind c.b.variables 0) c.x.cell.access c.place.component = formal_within p.types (variable_kind c.b.variables 0) c.o c.x.cell.access c.place single.object single.is (rw single.is at holds) in
-        let frees : (t : ℕ) → CoveredIn (implicit_of p) (seen_in (Some c.number) p) t → at.may t ≡ true =
-        λ t covered. at.includes t (treated_frees_of program grounds.well c.x.cell.access c.of operated.1 c.number c.b operable c.treatment k (rw (c.operated.0) (c.operated.2)) (copied_behind (Names c.o) c.treatment c.tasks k c.heap c.treats) touches c.called c.there t covered) in
         let lets : (raised : Exception) → body_among (implicit_of p) (seen_in (Some c.number) p) raised ≡ true → lets_out (implicit_of p) c.x.cell.access c.treatment raised ≡ true =
         touches_let program grounds.well grounds.lets_nothing_out made c.x.cell.access c.of operated.1 c.number c.b operable c.treatment touches c.called c.there in
-        rw c.is (touching_begins program grounds.well grounds.obeys c.number (touches_apart program grounds.obeys.0 c.of c.number c.treatment touches c.called) c.b c.there single a rest gs s k c.o c.x c.heap c.found (live_there c.x.stage c.live) c.place within c.treatment frugal grounds.spares_own at c.behind frees
-        (covers_by c.x.cell.access c.of operated.1 c.number c.b c.treatment operable touches c.called c.there) lets e c.of c.tasks c.alters waits (is_awaited p.types c.o c.of c.treatment c.tasks k c.behind waits) stands
+        rw c.is (touching_begins program grounds.well grounds.obeys c.number (touches_apart program grounds.obeys.0 c.of c.number c.treatment touches c.called) c.b c.there single a rest gs s k c.o c.x c.heap c.found (live_there c.x.stage c.live) c.place within c.treatment frugal grounds.spares_own at c.behind entered.frees
+        (covers_by c.x.cell.access c.of operated.1 c.number c.b c.treatment operable c.called c.there) lets e c.of c.tasks entered.adjusts c.alters waits (is_awaited p.types c.o c.of c.treatment c.tasks k c.behind waits) stands
         (watched_begins program grounds.well uses a rest gs s c.treatment at.watch c.o c.x.cell.access c.of operated.1 c.number c.b c.place c.behind c.heap operable c.called c.there frugal at.spared at.stored))
 
     -- That is known of it, whatever runs behind it.
-    pub touching_starts : operations_may_be_called p ≡ true → makes_parts p ≡ true → (e : Event) (after : State) (c : Begins known a rest s program.types.items (body_forms program) k IsOperated e after) → MayTouch c.treatment → may_be_frugal p ≡ true → is_frugal_body (thrift_of p) c.b ≡ true → TouchesStorage p c.treatment c.b
+    pub touching_starts : operations_may_be_called p ≡ true → makes_parts p ≡ true → (e : Event) (after : State) (c : Begins known a rest s program.types.items (body_forms program) k IsOperated e after) → MayTouch p c.treatment → may_be_frugal p ≡ true → is_frugal_body (thrift_of p) c.b ≡ true → TouchesStorage p c.treatment c.b
         → typed.Typed p after → Begun program gs c.treatment c.behind s.masters after
     touching_starts uses made e after c touches may frugal stores typing = (begins_so uses made e after c touches may frugal stores typing).0
 
@@ -308,23 +365,20 @@ module _ (program : Program) (a : Activation Value) (rest : List (Activation Val
           (treating_others u (Names alone.object) (Adjustment alone.number) alone.tasks alone.behind (λ same. other (same ∙ sym alone.named)) (nothing_begins u alone.behind alone.untreated))
       assigned_others number one (f ∷ j) at treats = absurd treats
 
-      others_by : (by : Treatment) (left : List Task) → by ≡ treatment → MayTouch by → TreatsBy known v by left k heap places operands masters → NothingBegins u k
-      others_by (begins Creation done) left one may treats =
-          nothing_begins u k (grounds.untreated_start still v Creation done tasks k (control_by (begins Creation done) one))
-      others_by (begins Copy done) left one may treats = absurd may
-      others_by (begins (Adjustment n) done) left one may treats = absurd may
-      others_by (ends (Leaving m item)) left one may treats = ended_others (Leaving m item) one k refl treats
-      others_by (ends (Freeing number)) left one may treats = ended_others (Freeing number) one k refl treats
-      others_by (ends (Assigning number)) left one may treats = assigned_others number one k refl treats
-      others_by (ends (Undoing number)) left one may treats = ended_others (Undoing number) one k refl treats
+      others_by : (by : Treatment) (left : List Task) → by ≡ treatment → TreatsBy known v by left k heap places operands masters → NothingBegins u k
+      others_by (begins birth done) left one treats = nothing_begins u k (grounds.untreated_start still v birth done tasks k (control_by (begins birth done) one))
+      others_by (ends (Leaving m item)) left one treats = ended_others (Leaving m item) one k refl treats
+      others_by (ends (Freeing number)) left one treats = ended_others (Freeing number) one k refl treats
+      others_by (ends (Assigning number)) left one treats = assigned_others number one k refl treats
+      others_by (ends (Undoing number)) left one treats = ended_others (Undoing number) one k refl treats
 
     -- An operation begins there.
     module _ (same : whole.masters ≡ s.masters) (calm : IsCalm (behind_call k)) (settled : under_in (callers_of program gs) ≡ []) (stands : Stands program gs (record s { activations = a ∷ rest }))
-        (e : Event) (after : State) (c : Begins known a rest s program.types.items (body_forms program) k IsOperated e after) (touches : MayTouch c.treatment) where
+        (e : Event) (after : State) (c : Begins known a rest s program.types.items (body_forms program) k IsOperated e after) (touches : MayTouch p c.treatment) where
       -- Nothing begins of another object than the one that it is called for.
       pub untreated_outermost : (u : Value) → u ≢ Names c.o → NothingBegins u k
       untreated_outermost u other =
-          others_by c.heap a.places a.operands s.masters u (λ is. other (is ∙ c.operated.3)) c.treatment c.tasks c.operated.0 touches
+          others_by c.heap a.places a.operands s.masters u (λ is. other (is ∙ c.operated.3)) c.treatment c.tasks c.operated.0
           (subst (λ (w : Value). TreatsBy known w c.treatment c.tasks k c.heap a.places a.operands s.masters) (sym c.operated.3) c.treats)
 
       -- Its body runs, as the outermost one.

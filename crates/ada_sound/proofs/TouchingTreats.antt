@@ -393,7 +393,7 @@ module _ (program : Program) (a : Activation Value) (rest : List (Activation Val
         lone_here (ends cause) ended = lone_inside v (ends cause) k ended (treated_begin program whole grounds f.suspensions f.within f.stands v treatment tasks k refl (inside_so treatment called_here))
 
         -- So one begins inside that touches storage.
-        begins_frugal : MayTouch c.treatment → may_be_frugal p ≡ true → is_frugal_body (thrift_of p) c.b ≡ true → TouchesStorage p c.treatment c.b
+        begins_frugal : MayTouch p c.treatment → may_be_frugal p ≡ true → is_frugal_body (thrift_of p) c.b ≡ true → TouchesStorage p c.treatment c.b
             → Went program s.heap e after
         begins_frugal touches may frugal_body stores =
             let uses = treats_in_use program whole grounds whole.control refl tt in

@@ -343,6 +343,10 @@ pub record BeginsPart (o : Id) (x : Object) (place : Place) (by : Birth) (done :
   pub at : place ≡ record { component = p.first; part = part }
   pub awaits : behind ≡ frame.Awaits (Names o) by done of part tasks ∷ k
 
+-- Of a record that was copied into the object of a value a part is adjusted, in front of what is left of that.
+abbrev pub AdjustsPart : Known → Value → (of : ℕ) → List Task → Control → List Object → (places : List Value) → List Master → Type 0
+AdjustsPart known v of tasks k heap places masters = (part : ℕ) × AdjustsTo known v (performs of part ∷ tasks) k heap places masters
+
 -- The body begins of a procedure that overrides an operation, of a controlled type of which the next task is known to speak: for a part of an object that is
 -- there, and that is ready for what waits behind it (7.6, 7.6.1). Where it is an Adjust, the part declares no component of an access type.
 pub record Begins (known : Known) (a : Activation Value) (rest : List (Activation Value)) (s : State) (types : List TypeDefinition) (bodies : List BodyForm) (k : Control) (IsOperated : Treatment → Id → ℕ → Type 0) (e : Event) (after : State) : Type 0 where
@@ -368,6 +372,7 @@ pub record Begins (known : Known) (a : Activation Value) (rest : List (Activatio
   pub begun : (by : Birth) (done : List parts.Part) → treatment ≡ begins by done → (heap ≡ s.heap) × (e ≡ Quiet)
   pub standing : (by : Birth) (done : List parts.Part) → treatment ≡ begins by done → BeginsPart o x place by done of tasks k behind
   pub plain : (by : Birth) (done : List parts.Part) → treatment ≡ begins by done → BeginsCopy by → owners_numbered known.program.types of ≡ []
+  pub adjusts : (by : Birth) (done : List parts.Part) → treatment ≡ begins by done → BeginsCopy by → AdjustsPart known (Names o) of tasks k heap a.places s.masters
   pub is : after ≡ operating named number b (Part o place) behind (record (running k a rest s) { heap = heap })
 
 -- The body of an Adjust begins, after a copy, that sees to the components of access types of a controlled part of an object. These count as null until it has
@@ -435,6 +440,10 @@ module _ (known : Known) (a : Activation Value) (rest : List (Activation Value))
     abbrev pub Treated : Next → Type 0
     Treated n = TreatedIn v n
 
+    -- The part of a copy that is adjusted declares no component of an access type, and what was left is known.
+    abbrev AdjustsPlainly : (of : ℕ) → List Task → Type 0
+    AdjustsPlainly of tasks = (owners_numbered known.program.types of ≡ []) × AdjustsPart known v of tasks k s.heap a.places s.masters
+
     -- What is left goes on.
     goes_on : (treatment : Treatment) (tasks : List Task) → TreatsBy known v treatment tasks k s.heap a.places a.operands s.masters → IsOfAssigned known.program.types treatment tasks k → Stepped known s.heap Quiet (treated_on named v treatment tasks (running k a rest s))
     goes_on treatment tasks r of =
@@ -495,7 +504,7 @@ module _ (known : Known) (a : Activation Value) (rest : List (Activation Value))
         awaits = awaits_it by done of part tasks birth before is;
       }
 
-      calls_first : (by : Birth) (done : List parts.Part) (of part : ℕ) (tasks : List Task) (p : PartState) (number : ℕ) → (BeginsCopy by → owners_numbered known.program.types of ≡ []) → ((o : Id) → v ≡ Names o → IsOperated (begins by done) o of) × (beginning by (operations_of types of) ≡ Some number) → slice_get cell.parts part ≡ Some p → TreatsBy known v (begins by done) tasks k s.heap a.places a.operands s.masters
+      calls_first : (by : Birth) (done : List parts.Part) (of part : ℕ) (tasks : List Task) (p : PartState) (number : ℕ) → (BeginsCopy by → AdjustsPlainly of tasks) → ((o : Id) → v ≡ Names o → IsOperated (begins by done) o of) × (beginning by (operations_of types of) ≡ Some number) → slice_get cell.parts part ≡ Some p → TreatsBy known v (begins by done) tasks k s.heap a.places a.operands s.masters
           → (found : Option BodyForm) → slice_get bodies number ≡ found → Treated (operation_next named number found (part_reference named v part p) (frame.Awaits v by done of part tasks ∷ k) Quiet (running k a rest s))
       calls_first by done of part tasks p number plain called state r None at = tt
       calls_first by done of part tasks p number plain called state r (Some b) at = inr (inl (record {
@@ -520,11 +529,15 @@ module _ (known : Known) (a : Activation Value) (rest : List (Activation Value))
         tells = tt;
         begun = λ birth before is. (refl, refl);
         standing = λ birth before is. part_stands by done of part tasks p state birth before is;
-        plain = λ birth before is copies. (let same : by ≡ birth = cc is in plain (subst (λ (one : Birth). BeginsCopy one) (sym same) copies));
+        plain = λ birth before is copies. (let same : by ≡ birth = cc is in (plain (subst (λ (one : Birth). BeginsCopy one) (sym same) copies)).0);
+        adjusts = λ birth before is copies.
+            (let same : by ≡ birth = cc is in
+            subst (λ (u : Value). AdjustsPart known u of tasks k s.heap a.places s.masters) (there.names)
+            (plain (subst (λ (one : Birth). BeginsCopy one) (sym same) copies)).1);
         is = ap (λ (u : Value). operating named number b (part_reference named u part p) (frame.Awaits v by done of part tasks ∷ k) (running k a rest s)) (there.names);
       }))
 
-      begun_fine : (by : Birth) (done : List parts.Part) (of part : ℕ) (tasks : List Task) (operation : Option ℕ) → (BeginsCopy by → owners_numbered known.program.types of ≡ []) → ((number : ℕ) → operation ≡ Some number → ((o : Id) → v ≡ Names o → IsOperated (begins by done) o of) × (beginning by (operations_of types of) ≡ Some number)) → (state : Option PartState) → slice_get cell.parts part ≡ state → TreatsBy known v (begins by done) tasks k s.heap a.places a.operands s.masters
+      begun_fine : (by : Birth) (done : List parts.Part) (of part : ℕ) (tasks : List Task) (operation : Option ℕ) → (BeginsCopy by → AdjustsPlainly of tasks) → ((number : ℕ) → operation ≡ Some number → ((o : Id) → v ≡ Names o → IsOperated (begins by done) o of) × (beginning by (operations_of types of) ≡ Some number)) → (state : Option PartState) → slice_get cell.parts part ≡ state → TreatsBy known v (begins by done) tasks k s.heap a.places a.operands s.masters
           → Treated (begun_next named bodies v by done of part tasks operation state (running k a rest s))
       begun_fine by done of part tasks operation plain called None at r = tt
       begun_fine by done of part tasks None plain called (Some p) at r =
@@ -568,6 +581,7 @@ module _ (known : Known) (a : Activation Value) (rest : List (Activation Value))
         begun = λ birth before is. absurd (cc is);
         standing = λ birth before is. absurd (cc is);
         plain = λ birth before is copies. absurd (cc is);
+        adjusts = λ birth before is copies. absurd (cc is);
         is = ap (λ (u : Value). operating named number b (part_reference named u part p) (frame.Confines ∷ treating v (ends cause) tasks k) (record (running k a rest s) { heap = on_object (treated finalized_part part) s.heap v })) (there.names);
       }))
 
@@ -595,7 +609,7 @@ module _ (known : Known) (a : Activation Value) (rest : List (Activation Value))
           by true n once' fine = fine
           by false n once' fine = absurd (once' refl)
 
-    performed_by : (treatment : Treatment) (of part : ℕ) (tasks : List Task) (found : Found (Cell Value)) → ((by : Birth) (done : List parts.Part) → treatment ≡ begins by done → BeginsCopy by → owners_numbered known.program.types of ≡ []) → look s.heap v ≡ found → (performed_next named types bodies v treatment of part tasks found (running k a rest s) ≡ halts (Erroneous FinalizesTwice) → ⊥) → ((o : Id) → v ≡ Names o → IsOperated treatment o of) → TreatsBy known v treatment tasks k s.heap a.places a.operands s.masters → IsOfAssigned known.program.types treatment tasks k → Treated (performed_next named types bodies v treatment of part tasks found (running k a rest s))
+    performed_by : (treatment : Treatment) (of part : ℕ) (tasks : List Task) (found : Found (Cell Value)) → ((by : Birth) (done : List parts.Part) → treatment ≡ begins by done → BeginsCopy by → AdjustsPlainly of tasks) → look s.heap v ≡ found → (performed_next named types bodies v treatment of part tasks found (running k a rest s) ≡ halts (Erroneous FinalizesTwice) → ⊥) → ((o : Id) → v ≡ Names o → IsOperated treatment o of) → TreatsBy known v treatment tasks k s.heap a.places a.operands s.masters → IsOfAssigned known.program.types treatment tasks k → Treated (performed_next named types bodies v treatment of part tasks found (running k a rest s))
     performed_by treatment of part tasks on_null plain at once operated r inside = tt
     performed_by treatment of part tasks on_gone plain at once operated r inside = absurd (once refl)
     performed_by treatment of part tasks on_other plain at once operated r inside = tt
@@ -664,7 +678,7 @@ module _ (known : Known) (a : Activation Value) (rest : List (Activation Value))
         where
           go : (owners : List ℕ) → owners_numbered known.program.types of ≡ owners → Treated (performed_next named types bodies v (begins by done) of part tasks (look s.heap v) (running k a rest s))
           go [] none =
-              performed_by (begins by done) of part tasks (look s.heap v) (λ birth before is copying. none) refl once operated
+              performed_by (begins by done) of part tasks (look s.heap v) (λ birth before is copying. (none, (part, to))) refl once operated
               (copy_treats by copies done tasks (adjusts_skipped known v of part tasks k s.heap a.places s.masters none to)) tt
           go (c ∷ cs) some = adjust_performed by copies done of part tasks to (λ none. cc (none, some)) (operated to.o to.is)
 

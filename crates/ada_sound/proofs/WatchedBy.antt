@@ -31,13 +31,12 @@ use Rattle.ada_typed.proofs.Operators.{and_left, and_right}
 use Rattle.ada_typed.proofs.Values.{AreHeld, filled_at, component_held}
 use Rattle.ada_sound.proofs.Calm.{filled_in}
 use Rattle.ada_quiet.specs.Calm.{has_calm_objects}
-use Rattle.ada_quiet.specs.Simple.{is_bare_kind}
-use Rattle.ada_sound.proofs.CalmTypes.{bare_calm}
+use Rattle.ada_quiet.specs.Simple.{is_calm_kind}
 use Rattle.ada_sound.proofs.JudgedTyped.{AreAccess, watched_of_access, read_there, formal_lies, active_held}
 
--- Each of these variables holds an Integer, a Boolean, or values of an access type whose objects have no controlled parts.
-abbrev pub hold_bare : List TypeForm → List VariableForm → Bool
-hold_bare types ys = list_all (λ y. is_bare_kind types y.kind) ys
+-- Each of these variables holds an Integer, a Boolean, or values of an access type whose objects are calm.
+abbrev pub hold_calm : List TypeForm → (calm : List Bool) → List VariableForm → Bool
+hold_calm types calm ys = list_all (λ y. is_calm_kind types calm y.kind) ys
 
 module _ (types : List TypeForm) (calm : List Bool) (heap : List Object) (o : Id) (x : Object) (there : object_at heap o ≡ Some x) (other : has_calm_objects types calm x.cell.access ≡ false) where
   -- No value names it of an access type whose objects are calm.
@@ -57,15 +56,8 @@ module _ (types : List TypeForm) (calm : List Bool) (heap : List Object) (o : Id
   access_other access is (Scalar v) has = refl
   access_other access is (Part p place) has = absurd has
 
-  -- A value of a kind is no record's, and names calm objects alone.
-  abbrev is_calm_kind : VariableKind → Bool
-  is_calm_kind variable.Integer = true
-  is_calm_kind variable.Boolean = true
-  is_calm_kind (variable.Access access) = has_calm_objects types calm access.0
-  is_calm_kind (variable.Record object) = false
-
   -- Nor does a value of another kind, but a record's.
-  kind_other : (kind : VariableKind) (v : Value) → is_calm_kind kind ≡ true → HasKind types (cells_of heap) kind v → IsOther o v
+  kind_other : (kind : VariableKind) (v : Value) → is_calm_kind types calm kind ≡ true → HasKind types (cells_of heap) kind v → IsOther o v
   kind_other variable.Integer Null is has = refl
   kind_other variable.Integer (Names p) is has = absurd has
   kind_other variable.Integer (Scalar v) is has = refl
@@ -77,14 +69,7 @@ module _ (types : List TypeForm) (calm : List Bool) (heap : List Object) (o : Id
   kind_other (variable.Access access) v is has = access_other access.0 is v has
   kind_other (variable.Record object) v is has = absurd (cc is)
 
-  -- It names bare ones, so.
-  kind_calm : (kind : VariableKind) → is_bare_kind types kind ≡ true → is_calm_kind kind ≡ true
-  kind_calm variable.Integer bare = refl
-  kind_calm variable.Boolean bare = refl
-  kind_calm (variable.Access access) bare = bare_calm types calm (slice_get types access.0) bare
-  kind_calm (variable.Record object) bare = absurd (cc bare)
-
-  component_calm : (k : ComponentKind) → ((access : TypeNo) → held_kind k ≡ variable.Access access → has_calm_objects types calm access.0 ≡ true) → is_calm_kind (held_kind k) ≡ true
+  component_calm : (k : ComponentKind) → ((access : TypeNo) → held_kind k ≡ variable.Access access → has_calm_objects types calm access.0 ≡ true) → is_calm_kind types calm (held_kind k) ≡ true
   component_calm (component.Integer initial) each = refl
   component_calm (component.Boolean initial) each = refl
   component_calm (component.Access access) each = each access refl
@@ -98,23 +83,23 @@ module _ (types : List TypeForm) (calm : List Bool) (heap : List Object) (o : Id
       (kind_other (held_kind k) v (component_calm k (λ access is. each 0 access (ap (λ (kind : VariableKind). Some kind) is))) have.0, components_other ks vs (λ c access is. each (suc c) access is) have.1)
 
   -- And with what variables hold.
-  variables_other : (ys : List VariableForm) (vs : List Value) → length vs ≡ length ys → hold_bare types ys ≡ true → AreHeld types (cells_of heap) ys vs → AreOther o vs
-  variables_other [] [] count bare held = tt
-  variables_other [] (v ∷ vs) count bare held = absurd (omega (arith, count))
-  variables_other (y ∷ ys) [] count bare held = absurd held
-  variables_other (y ∷ ys) (v ∷ vs) count bare held =
+  variables_other : (ys : List VariableForm) (vs : List Value) → length vs ≡ length ys → hold_calm types calm ys ≡ true → AreHeld types (cells_of heap) ys vs → AreOther o vs
+  variables_other [] [] count calm_ones held = tt
+  variables_other [] (v ∷ vs) count calm_ones held = absurd (omega (arith, count))
+  variables_other (y ∷ ys) [] count calm_ones held = absurd held
+  variables_other (y ∷ ys) (v ∷ vs) count calm_ones held =
       let fewer : length vs ≡ length ys = omega (arith, count) in (
-        kind_other y.kind v (kind_calm y.kind (and_left (is_bare_kind types y.kind) (hold_bare types ys) bare)) held.0,
-        variables_other ys vs fewer (and_right (is_bare_kind types y.kind) (hold_bare types ys) bare) held.1,
+        kind_other y.kind v (and_left (is_calm_kind types calm y.kind) (hold_calm types calm ys) calm_ones) held.0,
+        variables_other ys vs fewer (and_right (is_calm_kind types calm y.kind) (hold_calm types calm ys) calm_ones) held.1,
       )
 
   -- The first variable refers to the record of the object, and no other one leads to it.
-  are_places : (w : View) → w.object ≡ o → (ys : List VariableForm) (vs : List Value) (place : Place) → slice_get vs 0 ≡ Some (Part w.object place) → place.component ≡ w.base → 0 < length ys → length vs ≡ length ys → hold_bare types (drop 1 ys) ≡ true → AreHeld types (cells_of heap) ys vs → ArePlaces w vs
-  are_places w at_object [] vs place at_first base some count bare held = absurd (omega (arith, some))
-  are_places w at_object (y ∷ ys) [] place at_first base some count bare held = absurd (cc)
-  are_places w at_object (y ∷ ys) (v ∷ vs) place at_first base some count bare held =
+  are_places : (w : View) → w.object ≡ o → (ys : List VariableForm) (vs : List Value) (place : Place) → slice_get vs 0 ≡ Some (Part w.object place) → place.component ≡ w.base → 0 < length ys → length vs ≡ length ys → hold_calm types calm (drop 1 ys) ≡ true → AreHeld types (cells_of heap) ys vs → ArePlaces w vs
+  are_places w at_object [] vs place at_first base some count calm_ones held = absurd (omega (arith, some))
+  are_places w at_object (y ∷ ys) [] place at_first base some count calm_ones held = absurd (cc)
+  are_places w at_object (y ∷ ys) (v ∷ vs) place at_first base some count calm_ones held =
       let fewer : length vs ≡ length ys = omega (arith, count) in
-      let others : AreOther o vs = variables_other ys vs fewer bare held.1 in
+      let others : AreOther o vs = variables_other ys vs fewer calm_ones held.1 in
       subst (λ (u : Value). ArePlaces w (u ∷ vs)) (sym (value_is at_first)) ((refl, base), subst (λ (i : Id). AreOther i vs) (sym at_object) others)
     where
       value_is : {u : Value} → Some v ≡ Some u → v ≡ u
@@ -178,14 +163,14 @@ some_variable [] kind is = absurd (cc is)
 some_variable (y ∷ ys) kind is = omega arith
 
 -- In a typed state of a body that tracks components, the object in which they lie is watched, where it exists and is not calm in some sense, no two of the components
--- are one, no component names what is not calm, and no other variable of the body is a record or names an object with controlled parts.
+-- are one, no component names what is not calm, and no other variable of the body is a record or names what is not calm.
 pub watched_by :
     (own : ProgramForm) → TablesFit own → (calm : List Bool) → (w : View) → TracksComponents own.types w.tracks own.variables → (s : State) (place : Place) (x : Object) → typed.TypedIn own s
     → slice_get (places s) 0 ≡ Some (Part w.object place) → place.component ≡ w.base → length (places s) ≡ length own.variables
-    → object_at s.heap w.object ≡ Some x → x.stage ≡ Existing → has_calm_objects own.types calm x.cell.access ≡ false → hold_bare own.types (drop 1 own.variables) ≡ true
+    → object_at s.heap w.object ≡ Some x → x.stage ≡ Existing → has_calm_objects own.types calm x.cell.access ≡ false → hold_calm own.types calm (drop 1 own.variables) ≡ true
     → ((holder c access : ℕ) → access_of (kind_among (reached_components own.types holder) c) ≡ Some access → has_calm_objects own.types calm access ≡ true)
     → AreApart w.tracks.components → IsWatched w (places s) s.heap
-watched_by own tables calm w tracking s place x typing at_first base count found exists other bare components apart =
+watched_by own tables calm w tracking s place x typing at_first base count found exists other calm_ones components apart =
     let cells = cells_of s.heap in
     let filled = filled_in own s typing in
     let held = held_in own s typing in
@@ -201,7 +186,7 @@ watched_by own tables calm w tracking s place x typing at_first base count found
       below = are_below own.types cells lies.ks x.cell.values have (watched w) each;
       apart = apart_shifted w.base w.tracks.components apart;
       no_references = subst (λ (o : Option Object). AreNoReferences (values_at (watched w) (values_of o))) (sym found) (are_no_references own.types cells lies.ks x.cell.values have (watched w) each);
-      variables = are_places own.types calm s.heap w.object x found other w refl own.variables (places s) place at_first base (some_variable own.variables (variable.Record tracking.object) tracking.formal) count bare held;
+      variables = are_places own.types calm s.heap w.object x found other w refl own.variables (places s) place at_first base (some_variable own.variables (variable.Record tracking.object) tracking.formal) count calm_ones held;
       count = count ∙ sym tracking.behind;
       components = λ p y at.
           let cell = filled_at own.types cells cells p y.cell filled (cell_at s.heap p y at) in

@@ -25,6 +25,7 @@ use Rattle.ada_quiet.specs.First.{HasUnused, IsFirst as IsFirstPlace}
 use Rattle.ada_quiet.specs.Idle.{makes_parts}
 use Rattle.ada_quiet.specs.InUse.{may_be_frugal}
 use Rattle.ada_quiet.specs.Releases.{first_spot, text_frees_inside}
+use Rattle.ada_front.specs.Front.{front_of}
 use Rattle.ada_resolve.specs.declared.fault.NameFault.{NameFault}
 use Rattle.ada_resolve.specs.declared.fault.NameFault.TheVariants as names
 use Rattle.ada_resolve.specs.declared.fault.NameRule.{NameRule}
@@ -70,6 +71,9 @@ IsFirstOfSyntax source fault = IsFirst source (verdict.Syntax fault)
 abbrev pub IsFirstOfNames : List ℕ → NameFault → Type 0
 IsFirstOfNames source fault = IsFirst source (verdict.Names fault)
 
+abbrev pub IsFirstOfEarly : List ℕ → Spot → Type 0
+IsFirstOfEarly source spot = IsFirst source (verdict.EarlyRound spot)
+
 -- what a fault of a phase tells, where it is that memory ran out
 no_text : (f : TextFault) → f ≡ text.NoMemory → refusal_of (verdict.Text f) ≡ None
 no_text f e = rw e refl
@@ -108,10 +112,10 @@ pub refused_by_flow : (p : Program) (implicit : Implicit) (r : Result (Unit {0})
 refused_by_flow p implicit (Ok x) known told = tt
 refused_by_flow p implicit (Err fault) known told = subst (λ (i : Implicit). Answers p i (Err fault)) known told
 
-gives_one : (p q : ProgramForm) → gives p ≡ gives q → p ≡ q
+pub gives_one : (p q : ProgramForm) → gives p ≡ gives q → p ≡ q
 gives_one p q e = cc
 
-gives_none : {X : Type 0} (spot : Spot) (rule : NameRule) (p : ProgramForm) → broken spot rule ≡ gives p → X
+pub gives_none : {X : Type 0} (spot : Spot) (rule : NameRule) (p : ProgramForm) → broken spot rule ≡ gives p → X
 gives_none spot rule p e = absurd cc
 
 abbrev pub the_broken : Spot → NameRule → NamesTold ProgramForm
@@ -157,11 +161,17 @@ no_names : {X : Type 0} → OneTokens → OneTree → (source : List ℕ) (spot 
 no_names tokens tree source spot rule p a b =
     gives_none spot rule (program_form p) (sym a.2 ∙ one_resolution tokens tree source a.0 b.tree a.1 b.text ∙ b.resolved)
 
+-- So there is no fault of names before which an operation calls itself.
+no_early_round : {X : Type 0} → OneTokens → OneTree → (source : List ℕ) (spot : Spot) (p : Program) → IsFirstOfEarly source spot → IsProgramOf source p → X
+no_early_round tokens tree source spot p a b =
+    gives_none a.2.0 a.2.1 (program_form p) (sym a.2.2 ∙ one_resolution tokens tree source a.0 b.tree a.1 b.text ∙ b.resolved)
+
 -- Which verdicts come of phases behind the program of a source.
 abbrev is_late : Verdict → Bool
 is_late (verdict.Text f) = false
 is_late (verdict.Syntax f) = false
 is_late (verdict.Names f) = false
+is_late (verdict.EarlyRound spot) = false
 is_late (verdict.Rounds f) = true
 is_late (verdict.Operations f) = true
 is_late (verdict.Unused f) = true
@@ -173,6 +183,7 @@ no_early tokens text tree syntax source (verdict.Text f) early b p a = no_text f
 no_early tokens text tree syntax source (verdict.Syntax f) early b p a = no_syntax f (no_fault tokens syntax source a.tree f a.text b)
 no_early tokens text tree syntax source (verdict.Names (names.Broken spot rule)) early b p a = no_names tokens tree source spot rule p b a
 no_early tokens text tree syntax source (verdict.Names names.NoMemory) early b p a = refl
+no_early tokens text tree syntax source (verdict.EarlyRound spot) early b p a = no_early_round tokens tree source spot p b a
 no_early tokens text tree syntax source (verdict.Rounds f) early b p a = absurd (cc early)
 no_early tokens text tree syntax source (verdict.Operations f) early b p a = absurd (cc early)
 no_early tokens text tree syntax source (verdict.Unused f) early b p a = absurd (cc early)
@@ -212,6 +223,7 @@ late_program : (source : List ℕ) (v : Verdict) → is_late v ≡ true → IsFi
 late_program source (verdict.Text f) late a = absurd (cc late)
 late_program source (verdict.Syntax f) late a = absurd (cc late)
 late_program source (verdict.Names f) late a = absurd (cc late)
+late_program source (verdict.EarlyRound spot) late a = absurd (cc late)
 late_program source (verdict.Rounds f) late a = (a.0, a.1)
 late_program source (verdict.Operations f) late a = (a.0, a.1)
 late_program source (verdict.Unused f) late a = (a.0, a.1)
@@ -291,6 +303,7 @@ pub no_first : OneTokens → NoTextFault → OneTree → NoSyntaxFault → (sour
 no_first tokens text tree syntax source (verdict.Text f) b p a = no_early tokens text tree syntax source (verdict.Text f) refl b p a.0
 no_first tokens text tree syntax source (verdict.Syntax f) b p a = no_early tokens text tree syntax source (verdict.Syntax f) refl b p a.0
 no_first tokens text tree syntax source (verdict.Names f) b p a = no_early tokens text tree syntax source (verdict.Names f) refl b p a.0
+no_first tokens text tree syntax source (verdict.EarlyRound spot) b p a = no_early tokens text tree syntax source (verdict.EarlyRound spot) refl b p a.0
 no_first tokens text tree syntax source (verdict.Rounds (round.CallsItself spot)) b p a =
     no_place HasRound (program_form b.0) (program_form p) spot (one_program tokens tree source b.0 p b.1 a.0) b.2 a.1.0
 no_first tokens text tree syntax source (verdict.Rounds round.NoMemory) b p a = refl
@@ -307,6 +320,36 @@ no_first tokens text tree syntax source (verdict.Unused unused.NoMemory) b p a =
 no_first tokens text tree syntax source (verdict.Flow (flow.Broken spot rule)) b p a =
     obeys_none p spot rule (same_judgement p b.0 (one_program tokens tree source p b.0 a.0 b.1) ∙ b.2.2) a.1.2
 no_first tokens text tree syntax source (verdict.Flow flow.NoMemory) b p a = refl
+
+-- Before a fault of the names an operation calls itself, or none does.
+
+-- Two faults of one tree stand at one place.
+same_fault : (t u : UnitTree) (spot other : Spot) (rule another : NameRule) → t ≡ u → resolution t ≡ the_broken spot rule → resolution u ≡ the_broken other another → spot ≡ other
+same_fault t u spot other rule another same a b =
+    let e : the_broken spot rule ≡ the_broken other another = sym a ∙ ap resolution same ∙ b in
+    cc e
+
+-- What stands before them is one tree.
+same_front : (t u : UnitTree) (spot other : Spot) → t ≡ u → spot ≡ other → resolution (front_of spot t) ≡ resolution (front_of other u)
+same_front t u spot other same there = ap (λ (s : Spot). resolution (front_of s t)) there ∙ ap (λ (x : UnitTree). resolution (front_of other x)) same
+
+-- So it is not both.
+names_or_round : {X : Type 0} → OneTokens → OneTree → (source : List ℕ) (spot early : Spot) (rule : NameRule) → IsFirstOfNames source (names.Broken spot rule)
+    → IsFirstOfEarly source early → X
+names_or_round tokens tree source spot early rule a b =
+    let same : a.0 ≡ b.0 = same_tree tokens tree source a.0 b.0 a.1 b.1 in
+    let there : spot ≡ b.2.0 = same_fault a.0 b.0 spot b.2.0 rule b.2.1 same a.2 b.2.2 in
+    let fine : IsFirstPlace (HasRound b.2.3.0) None = a.3 b.2.3.0 (same_front a.0 b.0 spot b.2.0 same there ∙ b.2.3.1) in
+    no_place HasRound b.2.3.0 b.2.3.0 early refl b.2.3.2 fine
+
+-- And it is one operation.
+one_early_round : OneTokens → OneTree → (source : List ℕ) (spot other : Spot) → IsFirstOfEarly source spot → IsFirstOfEarly source other
+    → refusal_of (verdict.EarlyRound spot) ≡ refusal_of (verdict.EarlyRound other)
+one_early_round tokens tree source spot other a b =
+    let same : a.0 ≡ b.0 = same_tree tokens tree source a.0 b.0 a.1 b.1 in
+    let there : a.2.0 ≡ b.2.0 = same_fault a.0 b.0 a.2.0 b.2.0 a.2.1 b.2.1 same a.2.2 b.2.2 in
+    let form : a.2.3.0 ≡ b.2.3.0 = gives_one a.2.3.0 b.2.3.0 (sym a.2.3.1 ∙ same_front a.0 b.0 a.2.0 b.2.0 same there ∙ b.2.3.1) in
+    one_place HasRound a.2.3.0 b.2.3.0 spot other form a.2.3.2 b.2.3.2 rules.NOT_IN_PROFILE.now
 
 -- One first fault: what each phase's fault says of the later phases.
 
@@ -334,6 +377,13 @@ early_one tokens text no_text_fault tree syntax no_syntax_fault source (verdict.
 early_one tokens text no_text_fault tree syntax no_syntax_fault source (verdict.Names (names.Broken spot rule)) (verdict.Syntax g) x y a b n m = syntax_first tokens no_syntax_fault source a.0 g a.1 b m
 early_one tokens text no_text_fault tree syntax no_syntax_fault source (verdict.Names (names.Broken spot rule)) (verdict.Names (names.Broken other another)) x y a b n m =
     broken_one spot other rule another (sym a.2 ∙ one_resolution tokens tree source a.0 b.0 a.1 b.1 ∙ b.2)
+early_one tokens text no_text_fault tree syntax no_syntax_fault source (verdict.Text f) (verdict.EarlyRound spot) x y a b n m = text_first no_text_fault source b.1.tokens f b.1.spelled a n
+early_one tokens text no_text_fault tree syntax no_syntax_fault source (verdict.Syntax f) (verdict.EarlyRound spot) x y a b n m = syntax_first tokens no_syntax_fault source b.0 f b.1 a n
+early_one tokens text no_text_fault tree syntax no_syntax_fault source (verdict.Names (names.Broken spot rule)) (verdict.EarlyRound other) x y a b n m = names_or_round tokens tree source spot other rule a b
+early_one tokens text no_text_fault tree syntax no_syntax_fault source (verdict.EarlyRound spot) (verdict.Text g) x y a b n m = text_first no_text_fault source a.1.tokens g a.1.spelled b m
+early_one tokens text no_text_fault tree syntax no_syntax_fault source (verdict.EarlyRound spot) (verdict.Syntax g) x y a b n m = syntax_first tokens no_syntax_fault source a.0 g a.1 b m
+early_one tokens text no_text_fault tree syntax no_syntax_fault source (verdict.EarlyRound spot) (verdict.Names (names.Broken other rule)) x y a b n m = names_or_round tokens tree source other spot rule b a
+early_one tokens text no_text_fault tree syntax no_syntax_fault source (verdict.EarlyRound spot) (verdict.EarlyRound other) x y a b n m = one_early_round tokens tree source spot other a b
 early_one tokens text no_text_fault tree syntax no_syntax_fault source v (verdict.Names names.NoMemory) x y a b n m = absurd (m refl)
 early_one tokens text no_text_fault tree syntax no_syntax_fault source (verdict.Names names.NoMemory) w x y a b n m = absurd (n refl)
 early_one tokens text no_text_fault tree syntax no_syntax_fault source (verdict.Rounds f) w x y a b n m = absurd (cc x)
@@ -408,9 +458,11 @@ late_one tokens tree source (verdict.Flow flow.NoMemory) w x y a b n m = absurd 
 late_one tokens tree source (verdict.Text f) w x y a b n m = absurd (cc x)
 late_one tokens tree source (verdict.Syntax f) w x y a b n m = absurd (cc x)
 late_one tokens tree source (verdict.Names f) w x y a b n m = absurd (cc x)
+late_one tokens tree source (verdict.EarlyRound spot) w x y a b n m = absurd (cc x)
 late_one tokens tree source v (verdict.Text f) x y a b n m = absurd (cc y)
 late_one tokens tree source v (verdict.Syntax f) x y a b n m = absurd (cc y)
 late_one tokens tree source v (verdict.Names f) x y a b n m = absurd (cc y)
+late_one tokens tree source v (verdict.EarlyRound spot) x y a b n m = absurd (cc y)
 
 pub one_first : OneTokens → OneTextFault → NoTextFault → OneTree → OneSyntaxFault → NoSyntaxFault → (source : List ℕ) (v w : Verdict) → IsFirst source v → IsFirst source w → TellOne v w
 one_first tokens text no_text_fault tree syntax no_syntax_fault source v w a b n m = go (is_late v) (is_late w) refl refl
@@ -426,6 +478,7 @@ pub program_first : (source : List ℕ) (p : Program) (v : Verdict) → IsProgra
 program_first source p (verdict.Text f) meant first = absurd first
 program_first source p (verdict.Syntax f) meant first = absurd first
 program_first source p (verdict.Names f) meant first = absurd first
+program_first source p (verdict.EarlyRound spot) meant first = absurd first
 program_first source p (verdict.Rounds f) meant first = (p, meant, first)
 program_first source p (verdict.Operations f) meant first = (p, meant, first)
 program_first source p (verdict.Unused f) meant first = (p, meant, first)

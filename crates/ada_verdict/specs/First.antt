@@ -1,7 +1,7 @@
 -- The program of a source, and its first fault. The phases are text, syntax, names, which operations of controlled types call themselves, the rules on what
--- operations do, flow, and which operations are in use.
+-- operations do, flow, and which operations are in use. Which operations call themselves is asked of what stands before a fault of the names, too.
 
-use Rattle.std.specs.Prelude.{◌≡◌, ◌≢◌, ℕ, true, List, Some, None}
+use Rattle.std.specs.Prelude.{◌≡◌, ◌≢◌, ℕ, true, List, Option, Some, None}
 use Rattle.ada_text.specs.declared.spot.Spot.{Spot}
 use Rattle.ada_text.specs.Token.{Lexeme}
 use Rattle.ada_text.specs.Reading.{Spells, IsFirstFault as IsFirstTextFault}
@@ -18,7 +18,11 @@ use Rattle.ada_quiet.specs.First.{IsFirstUnused as IsFirstNotInUse}
 use Rattle.ada_quiet.specs.Idle.{makes_parts}
 use Rattle.ada_quiet.specs.InUse.{may_be_frugal}
 use Rattle.ada_quiet.specs.Releases.{first_spot, text_frees_inside}
-use Rattle.ada_resolve.specs.Resolution.{Resolves}
+use Rattle.ada_front.specs.Front.{front_of}
+use Rattle.ada_resolve.specs.declared.fault.NameFault.{NameFault}
+use Rattle.ada_resolve.specs.declared.fault.NameFault.TheVariants as names
+use Rattle.ada_resolve.specs.declared.fault.NameRule.{NameRule}
+use Rattle.ada_resolve.specs.Resolution.{IsFirstNameFault, Resolves}
 use Rattle.ada_resolve.specs.View.{Faults}
 use Rattle.ada_rounds.specs.FirstRound.{IsFirstRound}
 use Rattle.ada_flow.specs.Flow.{ObeysRules}
@@ -109,21 +113,38 @@ IsFirstUnused program (unused.Circle spot) = ObeysRules program × IsFirstNotInU
 IsFirstUnused program (unused.Holder spot) = ObeysRules program × IsFirstNotInUse (program_form program) None × IsFirstBehindUse program (unused.Holder spot)
 IsFirstUnused program unused.NoMemory = ObeysRules program
 
+-- The first Initialize or Adjust that calls itself by what stands before a fault, or that there is none, where what stands before it is a program (7.6).
+abbrev pub IsFirstBefore : (fault : Spot) → UnitTree → Option Spot → Type 0
+IsFirstBefore fault tree None = (p : ProgramForm) → Resolves (front_of fault tree) p → IsFirstRound p None
+IsFirstBefore fault tree (Some spot) = (p : ProgramForm) × Resolves (front_of fault tree) p × IsFirstRound p (Some spot)
+
+-- The first fault of the names of a tree is told: before it no Initialize and no Adjust calls itself.
+abbrev pub IsToldFirst : NameFault → UnitTree → Type 0
+IsToldFirst (names.Broken spot rule) tree = IsFirstBefore spot tree None
+IsToldFirst names.NoMemory tree = Unit {0}
+
+-- The first Initialize or Adjust of a tree that calls itself by what stands before the first fault of its names.
+abbrev pub IsEarlyRound : UnitTree → Spot → Type 0
+IsEarlyRound tree spot = (fault : Spot) × (rule : NameRule) × IsFirstNameFault tree fault rule × IsFirstBefore fault tree (Some spot)
+
 -- The first fault of a program, behind names: that of the first phase that has one.
 abbrev pub IsFirstIn : Program → Verdict → Type 0
 IsFirstIn program (verdict.Text fault) = ⊥
 IsFirstIn program (verdict.Syntax fault) = ⊥
 IsFirstIn program (verdict.Names fault) = ⊥
+IsFirstIn program (verdict.EarlyRound spot) = ⊥
 IsFirstIn program (verdict.Rounds fault) = IsFirstCircling program fault
 IsFirstIn program (verdict.Operations fault) = NoneCallsItself program × IsFirstBroken program fault
 IsFirstIn program (verdict.Unused fault) = NoneCallsItself program × OperationsObey program × IsFirstUnused program fault
 IsFirstIn program (verdict.Flow fault) = NoneCallsItself program × OperationsObey program × IsFirstFlowFault program fault
 
--- The first fault of a source: that of the first phase that has one, of what that phase begins with. Want of memory is no fault of a source.
+-- The first fault of a source: that of the first phase that has one, of what that phase begins with. An Initialize or an Adjust that calls itself by what
+-- stands before the first fault of the names is told instead of that. Want of memory is no fault of a source.
 abbrev pub IsFirst : List ℕ → Verdict → Type 0
 IsFirst source (verdict.Text fault) = IsFirstTextFault source fault
 IsFirst source (verdict.Syntax fault) = (tokens : List Lexeme) × Spells source tokens × IsFirstSyntaxFault tokens fault
-IsFirst source (verdict.Names fault) = (tree : UnitTree) × IsSourceOf source tree × Faults fault tree
+IsFirst source (verdict.Names fault) = (tree : UnitTree) × IsSourceOf source tree × Faults fault tree × IsToldFirst fault tree
+IsFirst source (verdict.EarlyRound spot) = (tree : UnitTree) × IsSourceOf source tree × IsEarlyRound tree spot
 IsFirst source (verdict.Rounds fault) = (program : Program) × IsProgramOf source program × IsFirstIn program (verdict.Rounds fault)
 IsFirst source (verdict.Operations fault) = (program : Program) × IsProgramOf source program × IsFirstIn program (verdict.Operations fault)
 IsFirst source (verdict.Unused fault) = (program : Program) × IsProgramOf source program × IsFirstIn program (verdict.Unused fault)

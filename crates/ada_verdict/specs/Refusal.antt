@@ -100,6 +100,7 @@ refusal_of (verdict.Text fault) = text_told fault
 refusal_of (verdict.Syntax fault) = syntax_told fault
 refusal_of (verdict.Names (names.Broken spot broken)) = told spot (name_text broken)
 refusal_of (verdict.Names names.NoMemory) = None
+refusal_of (verdict.EarlyRound spot) = told spot rules.NOT_IN_PROFILE.now
 refusal_of (verdict.Rounds fault) = round_told fault
 refusal_of (verdict.Operations fault) = operation_told fault
 refusal_of (verdict.Unused fault) = unused_told fault

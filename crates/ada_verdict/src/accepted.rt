@@ -16,6 +16,7 @@ ghost use Rattle.ada_sound.specs.Always.{IsChecked, SparesHolders};
 ghost use Rattle.ada_tree.specs.StatementView.{unit_of};
 ghost use Rattle.ada_verdict.specs.First.{HasNoFault, IsAccepted, IsFirst, IsFirstBehindUse, IsFirstCircling, IsFirstIn, IsFirstUnspared, IsFirstUnused, IsProgramOf, IsSourceOf, NoneCallsItself, NoneLeadsBack, OperationsAreInUse, RefusesRightly};
 
+use crate::early::first_told;
 use crate::fault::{RoundFault, UnusedFault, Verdict};
 use crate::holders::reaching_holders;
 use crate::laws::accepted_sources_have_no_fault;
@@ -78,6 +79,7 @@ impl Accepted {
 /// Checks a source: it is accepted exactly where it is a program that obeys the rules, out of memory aside, and then
 /// the program is safe; else this is its first fault. The phases are text, syntax, names, which operations of controlled types call
 /// themselves, the rules on what operations do, flow, and which operations are in use; a fault is that of the first phase that has one.
+/// An operation that calls itself by what stands before a fault of the names is told instead of that.
 ///
 /// # Errors
 /// The first fault, or want of memory.
@@ -214,7 +216,7 @@ fn spare_holders(alloc: Global, program: &Program, implicit: &Implicit) -> Resul
 /// The program of a source.
 ///
 /// # Errors
-/// The first fault of the text, the syntax or the names, or want of memory.
+/// The first fault of the text, the syntax or the names, or what is told before that, or want of memory.
 fn program_of(alloc: Global, source: &[u8]) -> Result<Program, Verdict>
     ensures meant { IfOk result (λ program. IsProgramOf source.now program) }
     ensures formed { IfOk result (λ program. IsWellFormed (program_form program)) }
@@ -223,21 +225,24 @@ fn program_of(alloc: Global, source: &[u8]) -> Result<Program, Verdict>
     ensures refused { IfErr result (λ verdict. IsFirst source.now verdict) }
 {
     let tokens = ada_text::tokens(alloc, source)?;
-    let parsed = parse(alloc, &tokens)?;
-    meaning(alloc, source, &parsed.unit)
+    let mut parsed = parse(alloc, &tokens)?;
+    meaning(alloc, source, &mut parsed.unit)
 }
 
-/// The program of a source that has this tree.
+/// The program of a source that has this tree. Where it is none, the tree is cut.
 ///
 /// # Errors
-/// The first fault of the names, or want of memory.
-fn meaning(alloc: Global, source: &[u8], unit: &Unit<'_>) -> Result<Program, Verdict>
-    requires { IsSourceOf source.now (unit_of unit.now) }
+/// The first fault of the names, or the first Initialize or Adjust before it that calls itself, or want of memory.
+fn meaning(alloc: Global, source: &[u8], unit: &mut Unit<'_>) -> Result<Program, Verdict>
+    requires { IsSourceOf source.now (unit_of unit.old) }
     ensures meant { IfOk result (λ program. IsProgramOf source.now program) }
     ensures formed { IfOk result (λ program. IsWellFormed (program_form program)) }
     ensures nests { IfOk result (λ program. CollectionsNest (program_form program)) }
     ensures frees_own { IfOk result (λ program. FreesItsOwn (program_form program)) }
     ensures refused { IfErr result (λ verdict. IsFirst source.now verdict) }
 {
-    Ok(resolve(alloc, unit)?)
+    match resolve(alloc, unit) {
+        Ok(program) => Ok(program),
+        Err(fault) => Err(first_told(alloc, source, unit, fault)),
+    }
 }

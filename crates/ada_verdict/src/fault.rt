@@ -16,6 +16,8 @@ pub enum Verdict {
     Text(TextFault),
     Syntax(SyntaxFault),
     Names(NameFault),
+    /// An Initialize or an Adjust calls itself by what stands before a fault of the names (7.6). Its body begins here.
+    EarlyRound(Spot),
     Rounds(RoundFault),
     Operations(OperationFault),
     Unused(UnusedFault),

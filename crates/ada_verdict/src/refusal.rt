@@ -32,6 +32,7 @@ impl Verdict {
             Verdict::Text(fault) => text_refusal(fault),
             Verdict::Syntax(fault) => syntax_refusal(fault),
             Verdict::Names(NameFault::Broken { spot, rule }) => refused(*spot, name_text(*rule)),
+            Verdict::EarlyRound(spot) => refused(*spot, rules::NOT_IN_PROFILE),
             Verdict::Rounds(fault) => round_refusal(fault),
             Verdict::Operations(fault) => operation_refusal(fault),
             Verdict::Unused(fault) => unused_refusal(fault),

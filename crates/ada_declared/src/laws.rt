@@ -1,0 +1,9 @@
+//! The laws of declared record objects. Each is a function that does nothing, and whose contract is the theorem.
+
+ghost use Rattle.ada_declared.specs.Declared.{DeclaredObjectsStandApart};
+
+/// While the body of an Initialize, an Adjust or a Finalize runs, each of its record variables but the formal parameter holds
+/// nothing, or names an object of which no operation runs behind the body (3.3.1, 7.6): it was created after the body began.
+pub fn declared_objects_stand_apart()
+    ensures { DeclaredObjectsStandApart }
+{}

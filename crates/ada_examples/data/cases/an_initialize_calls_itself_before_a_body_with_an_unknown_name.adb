@@ -1,0 +1,23 @@
+with Ada.Finalization;
+procedure Main is
+   type Box is new Ada.Finalization.Controlled with record Value : Integer := 0; end record;
+   overriding procedure Initialize (Object : in out Box);
+   type Crate is new Ada.Finalization.Controlled with record Value : Integer := 0; end record;
+   overriding procedure Initialize (Object : in out Crate);
+   procedure Open is
+      B : Box;
+      C : Crate;
+   begin
+      null;
+   end Open;
+   overriding procedure Initialize (Object : in out Box) is
+   begin
+      Open;
+   end Initialize;
+   overriding procedure Initialize (Object : in out Crate) is
+   begin
+      Nothing;
+   end Initialize;
+begin
+   null;
+end Main;

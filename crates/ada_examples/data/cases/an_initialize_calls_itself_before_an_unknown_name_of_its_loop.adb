@@ -1,0 +1,20 @@
+with Ada.Finalization;
+procedure Main is
+   type Box is new Ada.Finalization.Controlled with record Value : Integer := 0; end record;
+   overriding procedure Initialize (Object : in out Box);
+   procedure Open is
+      B : Box;
+   begin
+      null;
+   end Open;
+   overriding procedure Initialize (Object : in out Box) is
+   begin
+      loop
+         Open;
+         exit when Object.Value = 1;
+         Object.Value := Nothing;
+      end loop;
+   end Initialize;
+begin
+   null;
+end Main;
