@@ -100,7 +100,7 @@ one_way : (first second before behind : ℕ) → nat_lt first second || ((first 
 one_way first second before behind there back = grind (arith, there, back)
 
 -- Of two collections not each is created before the other.
-not_both : (parts : List (List ℕ)) (t u : ℕ) → is_created_before parts u t ≡ true → is_created_before parts t u ≡ true → ⊥
+pub not_both : (parts : List (List ℕ)) (t u : ℕ) → is_created_before parts u t ≡ true → is_created_before parts t u ≡ true → ⊥
 not_both parts t u there back = one_way (place_of parts u).part (place_of parts t).part (place_of parts u).order (place_of parts t).order there back
 
 module _ (p : ProgramForm) where

@@ -111,7 +111,7 @@ module _ (t : ℕ) where
       omega (arith, own, rest, made, both)
 
 -- All of these are access types.
-abbrev AllAccess : List TypeForm → List ℕ → Type 0
+abbrev pub AllAccess : List TypeForm → List ℕ → Type 0
 AllAccess types us = list_all (is_access types) us ≡ true
 
 -- The collections that declarations create are those of access types.
@@ -218,7 +218,7 @@ bodies_access types texts exceptions callable (b ∷ bs) fits =
     (bodies_access types texts exceptions (callable ++ profile_of b ∷ []) bs (and_right own rest fits))
 
 -- So are those of a well-formed program.
-accesses : (p : ProgramForm) → IsWellFormed p → Each (AllAccess p.types) (collections_of p)
+pub accesses : (p : ProgramForm) → IsWellFormed p → Each (AllAccess p.types) (collections_of p)
 accesses p well =
     join (AllAccess p.types) (body_collections (main_body p)) (flat_map body_collections p.bodies) (
       collected_access p.types p.declarations well.collections_fit,

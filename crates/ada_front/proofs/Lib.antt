@@ -12,3 +12,11 @@ pub mod Cutting
 pub mod Parts
 -- where nothing is cut
 pub mod Whole
+-- lists of marks
+pub mod Marks
+-- what is over stays
+pub mod Kept
+-- marks stand at the tokens of a text
+pub mod Texts
+-- in its order
+pub mod InText

@@ -4,8 +4,9 @@ use Rattle.std.specs.Prelude.{◌≡◌, ℕ, [], ◌∷◌, Option, Some, None}
 use Rattle.ada_text.specs.declared.spot.Spot.{Spot}
 use Rattle.ada_tree.specs.Names.{Ident}
 use Rattle.ada_tree.specs.Declarations.{HeadTree}
-use Rattle.ada_tree.specs.Statements.{specification, body_declaration, DeclarationsTree, no_declarations, a_declaration, null_statement, call, loop_statement, endless, StatementsTree, no_statements, a_statement, no_handlers, SequenceTree, a_sequence, UnitTree}
+use Rattle.ada_tree.specs.Statements.{specification, body_declaration, DeclarationsTree, no_declarations, a_declaration, StatementTree, null_statement, call, loop_statement, endless, StatementsTree, no_statements, a_statement, no_handlers, SequenceTree, a_sequence, UnitTree}
 use Rattle.ada_front.specs.Front.{front_of}
+use Rattle.ada_front.specs.Marks.{does, InOrder, over_by, simple, unit_marks}
 
 -- A place in a line of its own.
 abbrev pub at_line : ℕ → Spot
@@ -20,8 +21,12 @@ abbrev pub head_at : (letter line : ℕ) → HeadTree
 head_at letter n = record { overriding = None; spot = at_line n; name = named letter n; formals = [] }
 
 -- A call of a procedure.
+abbrev pub a_call : (letter line : ℕ) → StatementTree
+a_call letter n = call (record { root = named letter n; selectors = [] }) []
+
+-- A call of a procedure, before other statements.
 abbrev pub calling : (letter line : ℕ) → StatementsTree → StatementsTree
-calling letter n ss = a_statement (call (record { root = named letter n; selectors = [] }) []) ss
+calling letter n ss = a_statement (a_call letter n) ss
 
 -- Statements between a `begin` and an `end`.
 abbrev pub between : (first last : ℕ) → StatementsTree → SequenceTree
@@ -78,3 +83,9 @@ left = procedure_with (body_of_b (body_of_c (calling 66 10 no_statements) None n
 -- That is the front.
 abbrev pub LeavesWhatStandsBefore : Type 0
 LeavesWhatStandsBefore = front_of (at_line 11) whole ≡ left
+
+-- The unit is in the order of its text, and what is over by the fault are the statement of B and two calls of C.
+abbrev pub IsOverBefore : Type 0
+IsOverBefore =
+    InOrder (unit_marks whole) ×
+    (simple (over_by (at_line 11) (unit_marks whole)) ≡ does (null_statement (at_line 4)) ∷ does (a_call 66 8) ∷ does (a_call 66 10) ∷ [])

@@ -6,6 +6,8 @@ pub mod Spots
 pub mod Front
 -- what has begun and what is settled, as the code finds it
 pub mod View
+-- what stands in a text, in its order
+pub mod Marks
 -- laws of fronts
 pub mod Laws
 -- a tree with a fault, and its front

@@ -10,6 +10,7 @@ use Rattle.ada_deeds.specs.declared.deed.Deed.TheVariants.{Raises, Frees, Follow
 use Rattle.ada_deeds.specs.declared.deed.Operation.{Operation}
 use Rattle.ada_deeds.specs.declared.deed.Operation.TheVariants.{Initialize, Adjust, Finalize}
 use Rattle.ada_effects.specs.Effects.{no_implicit}
+use Rattle.ada_operations.specs.Created.{collections_of, is_created_before}
 use Rattle.ada_operations.specs.Operations.{Overrides, HasPart, IsFirstFault, PropagatesNothing}
 use Rattle.ada_operations.specs.declared.rule.OperationRule.{OperationRule}
 use Rattle.ada_program.specs.declared.program.Exception.{Exception}
@@ -78,6 +79,11 @@ EndsReachWhatPartsUse = (p : ProgramForm) (u t : ℕ) →
 abbrev pub EndsSpareTheirOwn : Type 0
 EndsSpareTheirOwn = (p : ProgramForm) → IsFirstFault p None → (t : ℕ) → is_access p.types t ≡ true →
     ((implicit_of p).end_reaches t t ≡ false) × ((implicit_of p).adjust_frees t t ≡ false)
+
+-- And it is of types whose collections are created before that of its own: none that is created later, of which the objects may be gone by then (7.6.1).
+abbrev pub EndsSpareNewer : Type 0
+EndsSpareNewer = (p : ProgramForm) → IsFirstFault p None → (t u : ℕ) → is_access p.types t ≡ true → (implicit_of p).end_reaches t u ≡ true →
+    is_created_before (collections_of p) u t ≡ true
 
 -- Where no body breaks a rule, no exception comes out where a record is adjusted or finalized (7.6.1).
 abbrev pub ObeyingPropagatesNothing : Type 0

@@ -3,7 +3,7 @@
 
 ghost use Rattle.ada_operations.specs.Example.{AllAreBroken, NoneIsBroken, PartsOfPartsCount};
 ghost use Rattle.ada_operations.specs.Laws.{OneIsFirst, QuietOperationsDoNothing, QuietOperationsObey};
-ghost use Rattle.ada_operations.specs.Laws.{AdjustsFreeWhatPartsFree, EndsFreeWhatPartsFree, EndsReachWhatPartsUse, EndsSpareTheirOwn};
+ghost use Rattle.ada_operations.specs.Laws.{AdjustsFreeWhatPartsFree, EndsFreeWhatPartsFree, EndsReachWhatPartsUse, EndsSpareNewer, EndsSpareTheirOwn};
 ghost use Rattle.ada_operations.specs.Laws.{ObeyingPropagatesNothing, StartsFreeWhatPartsFree, StartsRaiseWhatPartsRaise};
 
 /// A program has its first fault, or none: not two of these.
@@ -41,6 +41,12 @@ pub fn implicit_calls_are_those_of_all_parts()
 /// its adjustment frees none: what they use lies in a collection that is created before its own (S8).
 pub fn ends_spare_their_own()
     ensures { EndsSpareTheirOwn }
+{}
+
+/// Where no body breaks a rule, what the end of an object of an access type frees or follows is of access types whose collections are
+/// created before that of its own: of none that is created later, and is gone where the object ends with its collection (S8).
+pub fn ends_spare_newer()
+    ensures { EndsSpareNewer }
 {}
 
 /// Where no body breaks a rule, no exception comes out where a record is adjusted or finalized: out of no Adjust and no Finalize of a part

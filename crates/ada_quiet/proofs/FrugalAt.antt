@@ -88,7 +88,8 @@ module _ (one other : Thrift) (same : one.types ≡ other.types) (opens : OpensM
       → (is_bare_initial other.types t items || is_inert_initial other t) ≡ true
   initial_more t items h = elim (or_cases (is_bare_initial one.types t items) (is_inert_initial one t) h) [
     | inl bare ↦
-        or_left (is_bare_initial other.types t items) (is_inert_initial other t) (ap (λ (types : List TypeForm). is_bare_initial types t items) (sym same) ∙ bare)
+        or_left (is_bare_initial other.types t items) (is_inert_initial other t)
+        (ap (λ (types : List TypeForm). is_bare_initial types t items) (sym same) ∙ bare)
     | inr inert ↦
         or_right (is_bare_initial other.types t items) (is_inert_initial other t)
         (ap (λ (types : List TypeForm). is_inert_named other (object_named types (Some t))) (sym same) ∙ inert_more (object_named one.types (Some t)) inert)
@@ -149,18 +150,22 @@ module _ (one other : Thrift) (same : one.types ≡ other.types) (opens : OpensM
     stmt_more (returns spot) h = refl
     stmt_more (raises e) h = refl
     stmt_more (encloses ds fs hs) h =
-        others (are_frugal_declarations one ds && are_frugal one fs) (are_frugal_handlers one hs) (are_frugal_declarations other ds && are_frugal other fs) (are_frugal_handlers other hs)
-        (others (are_frugal_declarations one ds) (are_frugal one fs) (are_frugal_declarations other ds) (are_frugal other fs) (declarations_more ds) (stmts_more fs))
+        others (are_frugal_declarations one ds && are_frugal one fs) (are_frugal_handlers one hs) (are_frugal_declarations other ds && are_frugal other fs)
+        (are_frugal_handlers other hs)
+        (others (are_frugal_declarations one ds) (are_frugal one fs) (are_frugal_declarations other ds) (are_frugal other fs) (declarations_more ds)
+        (stmts_more fs))
         (handlers_more hs) h
 
     stmts_more : (fs : StmtsForm) → are_frugal one fs ≡ true → are_frugal other fs ≡ true
     stmts_more no_stmts h = refl
-    stmts_more (a_stmt f fs) h = others (is_frugal_stmt one f) (are_frugal one fs) (is_frugal_stmt other f) (are_frugal other fs) (stmt_more f) (stmts_more fs) h
+    stmts_more (a_stmt f fs) h =
+        others (is_frugal_stmt one f) (are_frugal one fs) (is_frugal_stmt other f) (are_frugal other fs) (stmt_more f) (stmts_more fs) h
 
     branches_more : (branches : BranchesForm) → are_frugal_branches one branches ≡ true → are_frugal_branches other branches ≡ true
     branches_more (otherwise fs) h = stmts_more fs h
     branches_more (a_branch e fs branches) h =
-        others (are_frugal one fs) (are_frugal_branches one branches) (are_frugal other fs) (are_frugal_branches other branches) (stmts_more fs) (branches_more branches) h
+        others (are_frugal one fs) (are_frugal_branches one branches) (are_frugal other fs) (are_frugal_branches other branches) (stmts_more fs)
+        (branches_more branches) h
 
     handlers_more : (hs : HandlersForm) → are_frugal_handlers one hs ≡ true → are_frugal_handlers other hs ≡ true
     handlers_more no_handlers h = refl
@@ -171,7 +176,8 @@ module _ (one other : Thrift) (same : one.types ≡ other.types) (opens : OpensM
   body_more b h =
       others (are_frugal_declarations one b.declarations && are_frugal one b.statements) (are_frugal_handlers one b.handlers)
       (are_frugal_declarations other b.declarations && are_frugal other b.statements) (are_frugal_handlers other b.handlers)
-      (others (are_frugal_declarations one b.declarations) (are_frugal one b.statements) (are_frugal_declarations other b.declarations) (are_frugal other b.statements)
+      (others (are_frugal_declarations one b.declarations) (are_frugal one b.statements) (are_frugal_declarations other b.declarations)
+      (are_frugal other b.statements)
       (declarations_more b.declarations) (stmts_more b.statements))
       (handlers_more b.handlers) h
 
@@ -225,7 +231,8 @@ module _ (types : List TypeForm) (outermost : List ℕ) where
       let frugal : here ≡ true = sym (kept ∙ append_last known here) ∙ ap (λ (j : ℕ). slice_index_or all j false) (sym first) ∙ told in
       let same : c ≡ b = cc at in
       subst (λ (d : BodyForm). is_frugal_body (by types outermost all) d ≡ true) same
-      (body_more (by types outermost known) (by types outermost all) refl (λ t h. h) refl (λ j h. from_more more bs j (append_more known (here ∷ []) j h)) (λ h. h) c frugal)
+      (body_more (by types outermost known) (by types outermost all) refl (λ t h. h) refl (λ j h. from_more more bs j (append_more known (here ∷ []) j h))
+      (λ h. h) c frugal)
   from_at known (c ∷ bs) (suc n) i b place at told =
       let here = is_frugal_body (by types outermost known) c in
       from_at (known ++ here ∷ []) bs n i b (omega (arith, place, append_length known here)) at told

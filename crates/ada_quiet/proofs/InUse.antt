@@ -62,7 +62,8 @@ other_chosen : (which one other : Bool) → which ≡ false → other ≡ true �
 other_chosen true one other is h = absurd (cc is)
 other_chosen false one other is h = h
 
-pub uses_quiet_adjust : (p : ProgramForm) (owns : Bool) (o : Option ProcedureNo) → is_quiet_operation p o ≡ true → (owns && is_some (operation_body p o)) ≡ false →
+pub uses_quiet_adjust : (p : ProgramForm) (owns : Bool) (o : Option ProcedureNo) → is_quiet_operation p o ≡ true
+    → (owns && is_some (operation_body p o)) ≡ false →
     uses_adjust p owns o ≡ true
 uses_quiet_adjust p owns o h none =
     either_second (adjusts_nothing p && is_frugal_operation p o) (uses_called_adjust p owns o)
@@ -82,8 +83,10 @@ uses_quiet p owns (Some f) h none =
     let initialize = is_quiet_operation p f.operations.initialize in
     let adjust = is_quiet_operation p f.operations.adjust in
     let finalize = is_quiet_operation p f.operations.finalize in
-    others (initialize && adjust) finalize (uses_initialize p f.operations.initialize && uses_adjust p owns f.operations.adjust) (uses_finalize p f.operations.finalize)
-    (others initialize adjust (uses_initialize p f.operations.initialize) (uses_adjust p owns f.operations.adjust) (uses_quiet_initialize p f.operations.initialize)
+    others (initialize && adjust) finalize (uses_initialize p f.operations.initialize && uses_adjust p owns f.operations.adjust)
+    (uses_finalize p f.operations.finalize)
+    (others initialize adjust (uses_initialize p f.operations.initialize) (uses_adjust p owns f.operations.adjust)
+    (uses_quiet_initialize p f.operations.initialize)
     (λ quiet. uses_quiet_adjust p owns f.operations.adjust quiet none))
     (uses_quiet_finalize p f.operations.finalize) h
 
@@ -96,7 +99,8 @@ used_in p (t ∷ ts) h =
     let later = list_all (λ (d : TypeForm). has_quiet_operations p (finalization_in (Some d)) && not (adjusts_access p d)) ts in
     let both = first_of_both (quiet && leaves) later h in
     let none = not_true (adjusts_access p t) (second_of_both quiet leaves both) in
-    rw (uses_quiet p (has_access (Some t)) (finalization_in (Some t)) (first_of_both quiet leaves both) none) (used_in p ts (second_of_both (quiet && leaves) later h))
+    rw (uses_quiet p (has_access (Some t)) (finalization_in (Some t)) (first_of_both quiet leaves both) none)
+    (used_in p ts (second_of_both (quiet && leaves) later h))
 
 -- Where all operations are quiet, all are in use.
 pub quiet_in_use : (p : ProgramForm) → operations_are_quiet p ≡ true → operations_are_in_use p ≡ true

@@ -12,8 +12,6 @@ pub mod QuietSimple
 pub mod MarkedNumbers
 -- procedures that are frugal have frugal bodies
 pub mod FrugalAt
--- collections that are created in order, found in one pass
-pub mod Collecting
 -- record types with controlled parts, by their numbers, and tables of what is known of them
 pub mod NumberedTypes
 -- which types are calm, by what lies in their objects

@@ -52,7 +52,8 @@ item_seen f [] n x d below is = absurd (omega arith)
 item_seen f (y ∷ ys) zero x d below is = ap f is
 item_seen f (y ∷ ys) (suc n) x d below is = item_seen f ys n x d (omega arith) is
 
-module _ (types given : List TypeDefinition) (are : given ≡ types) (table items : List (Option (Bor TypeDefinition))) (same : items ≡ table) (known : IsNumbered given (map option_copied table)) where
+module _ (types given : List TypeDefinition) (are : given ≡ types) (table items : List (Option (Bor TypeDefinition))) (same : items ≡ table)
+    (known : IsNumbered given (map option_copied table)) where
   -- The table is one of the types.
   numbered : IsNumbered types (map option_copied table)
   numbered = subst (λ (ts : List TypeDefinition). IsNumbered ts (map option_copied table)) are known
@@ -63,7 +64,8 @@ module _ (types given : List TypeDefinition) (are : given ≡ types) (table item
       → option_map type_form (option_copied item) ≡ type_numbered (map type_form types) n
   item_numbered n below item at =
       let here : option_copied item ≡ slice_index_or (map option_copied table) n None =
-      item_seen option_copied items n item None below at ∙ ap (λ (xs : List (Option (Bor TypeDefinition))). slice_index_or (map option_copied xs) n None) same in
+      item_seen option_copied items n item None below at
+      ∙ ap (λ (xs : List (Option (Bor TypeDefinition))). slice_index_or (map option_copied xs) n None) same in
       let long : length (map option_copied table) ≡ length items = length-map table option_copied ∙ sym (ap length same) in
       let within : n < length (map option_copied table) = omega (arith, long, below) in
       ap (option_map type_form) (here ∙ numbered.known n within) ∙ sym (numbered_form types n)
@@ -151,7 +153,8 @@ pub record Says (types : List TypeForm) (ps : List PartForm) (f : Finalization) 
   pub below : f.number.0 < numbered_types types
   pub found : type_numbered types f.number.0 ≡ Some form
 
-pub says : (types : List TypeForm) → list_all (type_fits types) types ≡ true → (t : ℕ) (name : List ℕ) (ps : List PartForm) (components : List ComponentKind) (f : Finalization)
+pub says : (types : List TypeForm) → list_all (type_fits types) types ≡ true
+    → (t : ℕ) (name : List ℕ) (ps : List PartForm) (components : List ComponentKind) (f : Finalization)
     → slice_get types t ≡ Some (record_of name ps components (Some f)) → Says types ps f (record_of name ps components (Some f))
 says types fit t name ps components f at =
     let form = record_of name ps components (Some f) in
@@ -164,7 +167,8 @@ says types fit t name ps components f at =
     let its : TypeForm → Bool = λ u. has_number f.number.0 (finalization_in (Some u)) in
     let one = count_by its types == 1 in
     let whole = one_of_all (type_fits types) types t form fit at in
-    let said = second_of_both (kinds && first) (some && ordered && earlier) (first_of_both (kinds && first && (some && ordered && earlier)) (below && one) whole) in
+    let said = second_of_both (kinds && first) (some && ordered && earlier)
+    (first_of_both (kinds && first && (some && ordered && earlier)) (below && one) whole) in
     let alone = second_of_both (kinds && first && (some && ordered && earlier)) (below && one) whole in
     record {
       earlier = second_of_both (some && ordered) earlier said;

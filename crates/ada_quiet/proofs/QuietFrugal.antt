@@ -29,7 +29,8 @@ module _ (thrift : Thrift) (types : List TypeForm) (variables : List VariableFor
   declarations_frugal : (ds : List DeclarationForm) → are_quiet_declarations types variables ds ≡ true → are_frugal_declarations thrift ds ≡ true
   declarations_frugal [] quiet = refl
   declarations_frugal (d ∷ ds) quiet =
-      others (is_quiet_declaration types variables d) (are_quiet_declarations types variables ds) (is_frugal_declaration thrift d) (are_frugal_declarations thrift ds)
+      others (is_quiet_declaration types variables d) (are_quiet_declarations types variables ds) (is_frugal_declaration thrift d)
+      (are_frugal_declarations thrift ds)
       (declaration_frugal d) (declarations_frugal ds) quiet
 
   mutual
@@ -62,13 +63,15 @@ module _ (thrift : Thrift) (types : List TypeForm) (variables : List VariableFor
     stmts_frugal : (fs : StmtsForm) → are_quiet types variables fs ≡ true → are_frugal thrift fs ≡ true
     stmts_frugal no_stmts quiet = refl
     stmts_frugal (a_stmt f fs) quiet =
-        others (is_quiet_stmt types variables f) (are_quiet types variables fs) (is_frugal_stmt thrift f) (are_frugal thrift fs) (stmt_frugal f) (stmts_frugal fs) quiet
+        others (is_quiet_stmt types variables f) (are_quiet types variables fs) (is_frugal_stmt thrift f) (are_frugal thrift fs) (stmt_frugal f)
+        (stmts_frugal fs) quiet
 
     branches_frugal : (branches : BranchesForm) → are_quiet_branches types variables branches ≡ true → are_frugal_branches thrift branches ≡ true
     branches_frugal (otherwise fs) quiet = stmts_frugal fs quiet
     branches_frugal (a_branch e fs branches) quiet =
         let condition = is_quiet_expression types variables e in
-        others (condition && are_quiet types variables fs) (are_quiet_branches types variables branches) (are_frugal thrift fs) (are_frugal_branches thrift branches)
+        others (condition && are_quiet types variables fs) (are_quiet_branches types variables branches) (are_frugal thrift fs)
+        (are_frugal_branches thrift branches)
         (λ both. stmts_frugal fs (second_of_both condition (are_quiet types variables fs) both))
         (branches_frugal branches) quiet
 
@@ -81,7 +84,8 @@ module _ (thrift : Thrift) (types : List TypeForm) (variables : List VariableFor
 -- All variables of a plain body but its formal parameter are Integers and Booleans: of a frugal one this is not asked.
 pub frugal_body : (thrift : Thrift) (types : List TypeForm) (b : BodyForm) → is_plain_body types b ≡ true → is_frugal_body thrift b ≡ true
 frugal_body thrift types b plain =
-    others (elementary && declarations && statements) handlers (are_frugal_declarations thrift b.declarations && are_frugal thrift b.statements) (are_frugal_handlers thrift b.handlers)
+    others (elementary && declarations && statements) handlers (are_frugal_declarations thrift b.declarations && are_frugal thrift b.statements)
+    (are_frugal_handlers thrift b.handlers)
     (others (elementary && declarations) statements (are_frugal_declarations thrift b.declarations) (are_frugal thrift b.statements)
     (λ both. declarations_frugal thrift types b.variables b.declarations (second_of_both elementary declarations both))
     (stmts_frugal thrift types b.variables b.statements))

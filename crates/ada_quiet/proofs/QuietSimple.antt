@@ -30,13 +30,15 @@ module _ (types known : List TypeForm) (may_free : Bool) (variables : List Varia
   declarations_simple : (ds : List DeclarationForm) → are_quiet_declarations types variables ds ≡ true → are_simple_declarations known ds ≡ true
   declarations_simple [] quiet = refl
   declarations_simple (d ∷ ds) quiet =
-      others (is_quiet_declaration types variables d) (are_quiet_declarations types variables ds) (is_simple_declaration known d) (are_simple_declarations known ds)
+      others (is_quiet_declaration types variables d) (are_quiet_declarations types variables ds) (is_simple_declaration known d)
+      (are_simple_declarations known ds)
       (declaration_simple d) (declarations_simple ds) quiet
 
   mutual
     stmt_simple : (f : StmtForm) → is_quiet_stmt types variables f ≡ true → is_simple_stmt known may_free f ≡ true
     stmt_simple skips quiet = refl
-    stmt_simple (assigns target right) quiet = right_simple right (second_of_both (is_quiet_path types variables target) (is_quiet_right types variables right) quiet)
+    stmt_simple (assigns target right) quiet =
+        right_simple right (second_of_both (is_quiet_path types variables target) (is_quiet_right types variables right) quiet)
     stmt_simple (assigns_record target items) quiet = absurd (cc quiet)
     stmt_simple (frees access path) quiet = absurd (cc quiet)
     stmt_simple (gets target) quiet = refl
@@ -101,7 +103,8 @@ simple_body types known calm may_free b quiet =
     others (elementary && declarations && statements) handlers (plain && are_simple_declarations known b.declarations && are_simple known may_free b.statements)
     (are_simple_handlers known may_free b.handlers)
     (others (elementary && declarations) statements (plain && are_simple_declarations known b.declarations) (are_simple known may_free b.statements)
-    (others elementary declarations plain (are_simple_declarations known b.declarations) (calm_kinds known calm (drop 1 b.variables)) (declarations_simple types known may_free b.variables b.declarations))
+    (others elementary declarations plain (are_simple_declarations known b.declarations) (calm_kinds known calm (drop 1 b.variables))
+    (declarations_simple types known may_free b.variables b.declarations))
     (stmts_simple types known may_free b.variables b.statements))
     (handlers_simple types known may_free b.variables b.handlers)
     (plain_body types b quiet)

@@ -73,7 +73,8 @@ operation_first p false o = go (operation_body p o) refl
     go None is = λ spot h. absurd (cc (sym is ∙ h.1.1))
     go (Some b) is = (
       (refl, (b, is, refl)),
-      λ other h. subst (λ (s : Spot). stands_before s b.start_spot ≡ false) (ap (λ (c : BodyForm). c.start_spot) (some_same (sym is ∙ h.1.1)) ∙ h.1.2) (text_order.apart b.start_spot),
+      λ other h. subst (λ (s : Spot). stands_before s b.start_spot ≡ false) (ap (λ (c : BodyForm). c.start_spot) (some_same (sym is ∙ h.1.1)) ∙ h.1.2)
+          (text_order.apart b.start_spot),
     )
 
 -- Where there is the body of an operation, a procedure overrides it.
@@ -82,7 +83,8 @@ pub overriding_there : (p : ProgramForm) (o : Option ProcedureNo) (b : BodyForm)
 overriding_there p None b is = absurd (cc is)
 overriding_there p (Some procedure) b is = (procedure, refl, is)
 
-body_there : (p : ProgramForm) (o : Option ProcedureNo) (procedure : ProcedureNo) (b : BodyForm) → o ≡ Some procedure → slice_get p.bodies procedure.0 ≡ Some b →
+body_there : (p : ProgramForm) (o : Option ProcedureNo) (procedure : ProcedureNo) (b : BodyForm) → o ≡ Some procedure
+    → slice_get p.bodies procedure.0 ≡ Some b →
     operation_body p o ≡ Some b
 body_there p o procedure b is at = ap (operation_body p) is ∙ at
 
@@ -107,7 +109,8 @@ adjusted_procedure p owns procedure o =
     then may_track p && is_simple_procedure p.types (calmly_copied_types p) (adjusts_alone p) o
     else is_quiet_procedure p.types o || (may_adjust_frugally p && is_frugal_operation p (Some procedure)))
 
-adjusted_body : (p : ProgramForm) (owns : Bool) (procedure : ProcedureNo) (b : BodyForm) → adjusted_procedure p owns procedure (Some b) ≡ adjusts_in_use p owns procedure b
+adjusted_body : (p : ProgramForm) (owns : Bool) (procedure : ProcedureNo) (b : BodyForm)
+    → adjusted_procedure p owns procedure (Some b) ≡ adjusts_in_use p owns procedure b
 adjusted_body p true procedure b = refl
 adjusted_body p false procedure b = refl
 
@@ -184,7 +187,8 @@ pub below_none : (p : ProgramForm) → IsFirst (Below p 0) None
 below_none p = any_none stands_before (UnusedAt p)
 
 pub below_more : (p : ProgramForm) (count : ℕ) (a b : Option Spot) → IsFirst (Below p count) a →
-    b ≡ unused_in p (may_be_frugal p) (adjusts_nothing p) (may_adjust_frugally p) (may_track p) (adjusts_alone p) (has_access (slice_get p.types count)) (finalization_of p.types count) →
+    b ≡ unused_in p (may_be_frugal p) (adjusts_nothing p) (may_adjust_frugally p) (may_track p) (adjusts_alone p) (has_access (slice_get p.types count))
+    (finalization_of p.types count) →
     IsFirst (Below p (count + 1)) (first_of a b)
 below_more p count a b f is =
     any_more stands_before text_order (UnusedAt p) count a b f
@@ -211,10 +215,14 @@ split p t f owns s at has (inr (inr h)) =
     let (procedure, is, there) = overriding_there p f.operations.finalize b found in
     (procedure, b, there, inr (inr ((t, f, at, is), sym (used_as p f.operations.finalize procedure b is there) ∙ h.0)), begins)
 
-join : (p : ProgramForm) (procedure : ProcedureNo) (b : BodyForm) (s : Spot) → slice_get p.bodies procedure.0 ≡ Some b → b.start_spot ≡ s → IsUnused p procedure b →
+join : (p : ProgramForm) (procedure : ProcedureNo) (b : BodyForm) (s : Spot) → slice_get p.bodies procedure.0 ≡ Some b → b.start_spot ≡ s
+    → IsUnused p procedure b →
     Below p (length p.types) s
-join p procedure b s there begins (inl ((t, f, at, is), loud)) =
-    (t, within p.types t f at, (f, at, inl (begun_as p f.operations.initialize procedure b is there ∙ loud, (b, body_there p f.operations.initialize procedure b is there, begins))))
+join p procedure b s there begins (inl ((t, f, at, is), loud)) = (
+  t,
+  within p.types t f at,
+  (f, at, inl (begun_as p f.operations.initialize procedure b is there ∙ loud, (b, body_there p f.operations.initialize procedure b is there, begins))),
+)
 join p procedure b s there begins (inr (inl (owns, (t, f, at, is, has), loud))) = (
   t,
   within p.types t f at,
@@ -227,8 +235,11 @@ join p procedure b s there begins (inr (inl (owns, (t, f, at, is, has), loud))) 
     )),
   ),
 )
-join p procedure b s there begins (inr (inr ((t, f, at, is), loud))) =
-    (t, within p.types t f at, (f, at, inr (inr (used_as p f.operations.finalize procedure b is there ∙ loud, (b, body_there p f.operations.finalize procedure b is there, begins)))))
+join p procedure b s there begins (inr (inr ((t, f, at, is), loud))) = (
+  t,
+  within p.types t f at,
+  (f, at, inr (inr (used_as p f.operations.finalize procedure b is there ∙ loud, (b, body_there p f.operations.finalize procedure b is there, begins)))),
+)
 
 pub below_all : (p : ProgramForm) (a : Option Spot) → IsFirst (Below p (length p.types)) a → IsFirst (BeginsUnused p) a
 below_all p a f =
@@ -269,11 +280,13 @@ found_type p fits t f at (Some d) is all = all_at (λ (d : TypeForm). fits (Some
 abbrev is_quiet_type : ProgramForm → Option TypeForm → Bool
 is_quiet_type p o = has_quiet_operations p (finalization_in o) && not (has_access o && is_some (adjust_body p (finalization_in o)))
 
-quiet_found : (p : ProgramForm) → operations_are_quiet p ≡ true → (t : ℕ) (f : Finalization) → finalization_of p.types t ≡ Some f → has_quiet_operations p (Some f) ≡ true
+quiet_found : (p : ProgramForm) → operations_are_quiet p ≡ true → (t : ℕ) (f : Finalization) → finalization_of p.types t ≡ Some f
+    → has_quiet_operations p (Some f) ≡ true
 quiet_found p all t f at =
     let type = slice_get p.types t in
     let fine = found_type p (is_quiet_type p) t f at type refl all in
-    ap (has_quiet_operations p) (sym at) ∙ (both (has_quiet_operations p (finalization_in type)) (not (has_access type && is_some (adjust_body p (finalization_in type)))) fine).0
+    ap (has_quiet_operations p) (sym at)
+    ∙ (both (has_quiet_operations p (finalization_in type)) (not (has_access type && is_some (adjust_body p (finalization_in type)))) fine).0
 
 -- Where all are in use, those of a type are.
 abbrev is_used_type : ProgramForm → Option TypeForm → Bool
@@ -296,7 +309,8 @@ quiet_among p all t f procedure b at is there = go is
     quiet : (is_quiet_operation p f.operations.initialize && is_quiet_operation p f.operations.adjust && is_quiet_operation p f.operations.finalize) ≡ true
     quiet = quiet_found p all t f at
 
-    two : ((is_quiet_operation p f.operations.initialize && is_quiet_operation p f.operations.adjust) ≡ true) × (is_quiet_operation p f.operations.finalize ≡ true)
+    two : ((is_quiet_operation p f.operations.initialize && is_quiet_operation p f.operations.adjust) ≡ true)
+        × (is_quiet_operation p f.operations.finalize ≡ true)
     two = both (is_quiet_operation p f.operations.initialize && is_quiet_operation p f.operations.adjust) (is_quiet_operation p f.operations.finalize) quiet
 
     first : (is_quiet_operation p f.operations.initialize ≡ true) × (is_quiet_operation p f.operations.adjust ≡ true)
@@ -356,9 +370,11 @@ loud_used p (Some procedure) h = body_of p (slice_get p.bodies procedure.0) (use
 -- Of three that are not all in use one is not.
 unused_type : (p : ProgramForm) (owns : Bool) (o : Option Finalization) → uses_operations p owns o ≡ false → (s : Spot) × UnusedIn p owns o s
 unused_type p owns None h = absurd (cc h)
-unused_type p owns (Some f) h = go (uses_initialize p f.operations.initialize) (uses_adjust p owns f.operations.adjust) (uses_finalize p f.operations.finalize) refl refl refl h
+unused_type p owns (Some f) h =
+    go (uses_initialize p f.operations.initialize) (uses_adjust p owns f.operations.adjust) (uses_finalize p f.operations.finalize) refl refl refl h
   where
-    go : (i a z : Bool) → uses_initialize p f.operations.initialize ≡ i → uses_adjust p owns f.operations.adjust ≡ a → uses_finalize p f.operations.finalize ≡ z →
+    go : (i a z : Bool) → uses_initialize p f.operations.initialize ≡ i → uses_adjust p owns f.operations.adjust ≡ a
+        → uses_finalize p f.operations.finalize ≡ z →
         (i && a && z) ≡ false → (s : Spot) × UnusedIn p owns (Some f) s
     go false a z is _ _ h = let (b, at) = loud_begun p f.operations.initialize is in (b.start_spot, (f, refl, inl (is, (b, at, refl))))
     go true false z _ is _ h = let (b, at) = loud_adjusted p owns f.operations.adjust is in (b.start_spot, (f, refl, inr (inl (is, (b, at, refl)))))

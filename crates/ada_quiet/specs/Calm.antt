@@ -58,8 +58,8 @@ calm_by own types = calm_up_to own types (numbered_types types)
 abbrev pub calm_types : ProgramForm → List Bool
 calm_types p = calm_by (λ t. ends_calmly p (finalization_in (Some t))) p.types
 
--- Of those of some types of which no operation is overridden, neither of one itself nor of a part of it, at any depth: they are inert, so where values of theirs
--- begin and end, nothing is called (7.6).
+-- Of those of some types of which no operation is overridden, neither of one itself nor of a part of it, at any depth: they are inert, so where values of
+-- theirs begin and end, nothing is called (7.6).
 abbrev pub inert_types : List TypeForm → List Bool
 inert_types types = calm_by (λ t. overrides_nothing (finalization_in (Some t))) types
 

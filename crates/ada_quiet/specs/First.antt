@@ -1,6 +1,7 @@
 -- The first body in the text that overrides an operation of a controlled type and is not in use, in a program whose operations are not idle: Initialize is
--- neither plain nor frugal, where it may be; Adjust is neither quiet nor, where none is called or it may be, frugal; or, of a type with a component of an access
--- type, it is not simple, or may not track, or frees objects where a record has two controlled parts; or Finalize is neither quiet nor, where it may be, frugal.
+-- neither plain nor frugal, where it may be; Adjust is neither quiet nor, where none is called or it may be, frugal; or, of a type with a component of an
+-- access type, it is not simple, or may not track, or frees objects where a record has two controlled parts; or Finalize is neither quiet nor, where it may
+-- be, frugal.
 
 use Rattle.std.specs.Prelude.{◌≡◌, ◌⊎◌, ℕ, Bool, false, ◌&&◌, ◌||◌, ◌==◌, nat_lt, if◌then◌else◌, Option, Some, None, is_some}
 use Rattle.std.specs.List.{slice_get}
@@ -33,9 +34,8 @@ Finalizes p procedure = (t : ℕ) × (f : Finalization) × (finalization_of p.ty
 abbrev pub initializes_in_use : ProgramForm → (procedure : ProcedureNo) → BodyForm → Bool
 initializes_in_use p procedure b = is_plain_body p.types b || (may_be_frugal p && is_frugal_operation p (Some procedure))
 
--- A body adjusts in use: it is frugal, where no Adjust is called; or it is simple, where it may
--- track, if the type declares such a component, and frees objects only where each record has one controlled part at most; and else it is quiet, or frugal, where
--- it may be.
+-- A body adjusts in use: it is frugal, where no Adjust is called; or it is simple, where it may track, if the type declares such a component, and frees
+-- objects only where each record has one controlled part at most; and else it is quiet, or frugal, where it may be.
 abbrev pub adjusts_in_use : ProgramForm → (owns : Bool) → (procedure : ProcedureNo) → BodyForm → Bool
 adjusts_in_use p owns procedure b =
     (adjusts_nothing p && is_frugal_operation p (Some procedure))
@@ -52,11 +52,13 @@ finalizes_in_use p procedure b = is_quiet_body p.types b || (may_be_frugal p && 
 -- controlled parts, or Finalize and is neither quiet nor, where it may be, frugal.
 abbrev pub IsUnused : ProgramForm → (procedure : ProcedureNo) → BodyForm → Type 0
 IsUnused p procedure b = (Initializes p procedure × (initializes_in_use p procedure b ≡ false))
-    ⊎ (((owns : Bool) × Adjusts p owns procedure × (adjusts_in_use p owns procedure b ≡ false)) ⊎ (Finalizes p procedure × (finalizes_in_use p procedure b ≡ false)))
+    ⊎ (((owns : Bool) × Adjusts p owns procedure × (adjusts_in_use p owns procedure b ≡ false))
+    ⊎ (Finalizes p procedure × (finalizes_in_use p procedure b ≡ false)))
 
 -- Such a body begins here.
 abbrev pub BeginsUnused : ProgramForm → (spot : Spot) → Type 0
-BeginsUnused p spot = (procedure : ProcedureNo) × (b : BodyForm) × (slice_get p.bodies procedure.0 ≡ Some b) × IsUnused p procedure b × (b.start_spot ≡ spot)
+BeginsUnused p spot = (procedure : ProcedureNo) × (b : BodyForm) × (slice_get p.bodies procedure.0 ≡ Some b)
+    × IsUnused p procedure b × (b.start_spot ≡ spot)
 
 -- It does so in a program whose operations are not idle.
 abbrev pub HasUnused : ProgramForm → (spot : Spot) → Type 0
@@ -105,9 +107,11 @@ abbrev pub finalizes : ProgramForm → (frugal : Bool) → Option ProcedureNo �
 finalizes p frugal finalize = is_quiet_operation p finalize || (frugal && is_frugal_operation p finalize)
 
 -- The first one of those that override the operations of a type and are not in use, where an Initialize and a Finalize may be frugal or not, no Adjust is
--- called or one may be, an Adjust may be frugal or not, and track or not, the copy of a record adjusts one part alone or not, and the type declares such a component or does not.
+-- called or one may be, an Adjust may be frugal or not, and track or not, the copy of a record adjusts one part alone or not, and the type declares such a
+-- component or does not.
 abbrev pub unused_in : ProgramForm → (frugal nothing freely tracks alone owns : Bool) → Option Finalization → Option Spot
 unused_in p frugal nothing freely tracks alone owns None = None
-unused_in p frugal nothing freely tracks alone owns (Some f) = first_of (start_unless (initializes p frugal f.operations.initialize) (operation_body p f.operations.initialize))
+unused_in p frugal nothing freely tracks alone owns (Some f) =
+    first_of (start_unless (initializes p frugal f.operations.initialize) (operation_body p f.operations.initialize))
     (first_of (start_unless (adjusts p nothing freely tracks alone owns f.operations.adjust) (operation_body p f.operations.adjust))
     (start_unless (finalizes p frugal f.operations.finalize) (operation_body p f.operations.finalize)))

@@ -16,9 +16,9 @@ use Rattle.ada_quiet.specs.Bare.{has_bare_objects}
 use Rattle.ada_quiet.specs.Calm.{inert_types, is_known_calm}
 use Rattle.ada_quiet.specs.Idle.{holds_parts}
 
--- What frugal bodies go by: the types of the program; the access types whose collections the main procedure declares; of each record type with controlled parts,
--- by its number among these, whether it is inert; of each procedure, by its number, whether its body is frugal where it is called (6.4); and whether the body is
--- that of an operation (7.6).
+-- What frugal bodies go by: the types of the program; the access types whose collections the main procedure declares; of each record type with controlled
+-- parts, by its number among these, whether it is inert; of each procedure, by its number, whether its body is frugal where it is called (6.4); and whether
+-- the body is that of an operation (7.6).
 pub record Thrift : Type 0 where
   pub types : List TypeForm
   pub outermost : List ℕ
@@ -38,11 +38,12 @@ allocates_frugally thrift (computes e) = true
 abbrev pub is_bare_initial : List TypeForm → (object_type : ℕ) → List ItemForm → Bool
 is_bare_initial types t items = not (holds_parts types t) && list_all (is_bare_item types) items
 
--- So may one of a type that is known to be inert: then nothing is called as it is adjusted (7.6), nor as its master is left (7.6.1).
+-- A record type is known to be inert: then nothing is called as an object is adjusted (7.6), nor as its master is left (7.6.1).
 abbrev pub is_inert_named : Thrift → (record_type : Option ℕ) → Bool
 is_inert_named thrift None = false
 is_inert_named thrift (Some t) = is_known_calm thrift.inert (finalization_of thrift.types t)
 
+-- A record object of such a type may get an initial value, too.
 abbrev pub is_inert_initial : Thrift → (object_type : ℕ) → Bool
 is_inert_initial thrift t = is_inert_named thrift (object_named thrift.types (Some t))
 
@@ -69,8 +70,8 @@ assigns_at_hand thrift target =
 
 module _ (thrift : Thrift) where
   abbrev mutual
-    -- A statement assigns a record with controlled parts as a whole only where that is inert and lies at hand, and copies none into another one (5.2), gives values
-    -- to the components of no new object with such parts (4.8), and calls procedures with frugal bodies alone (6.4).
+    -- A statement assigns a record with controlled parts as a whole only where that is inert and lies at hand, and copies none into another one (5.2), gives
+    -- values to the components of no new object with such parts (4.8), and calls procedures with frugal bodies alone (6.4).
     pub is_frugal_stmt : StmtForm → Bool
     is_frugal_stmt skips = true
     is_frugal_stmt (assigns target right) = allocates_frugally thrift right

@@ -7,31 +7,20 @@ use Rattle.ada_program.specs.declared.program.Finalization.{Finalization}
 use Rattle.ada_program.specs.declared.program.PartKind.{PartKind}
 use Rattle.ada_program.specs.declared.program.ProcedureNo.{ProcedureNo}
 use Rattle.ada_program.specs.ProgramForm.{PartForm, TypeForm, record_of, access_to, object_of, ProgramForm}
-use Rattle.ada_program.specs.WellFormed.{finalization_in, finalization_of, components_within, is_parent, is_inherited}
+use Rattle.ada_program.specs.WellFormed.{finalization_in, components_within, is_parent, is_inherited}
 use Rattle.ada_quiet.specs.Quiet.{is_quiet_operation, is_plain_operation, has_access, operation_body}
-use Rattle.ada_quiet.specs.Bare.{collections_in_order}
 use Rattle.ada_quiet.specs.Calm.{names_no_trackers}
 use Rattle.ada_quiet.specs.Frugal.{is_frugal_operation}
 use Rattle.ada_quiet.specs.Simple.{is_simple_operation}
 use Rattle.ada_quiet.specs.Apart.{operations_stand_apart}
 use Rattle.ada_quiet.specs.Idle.{makes_parts, copies_parts}
 
--- A type designates no record type with controlled parts (3.10, 7.6), if it is an access type.
-abbrev pub designates_no_parts : List TypeForm → TypeForm → Bool
-designates_no_parts types (record_of name parts components finalization) = true
-designates_no_parts types (access_to name designated pool) = not (is_some (finalization_of types designated))
-designates_no_parts types (object_of record_type) = true
-
--- No access type designates a record type with controlled parts (3.10, 7.6), so these lie in declared objects alone.
-abbrev pub allocates_no_parts : ProgramForm → Bool
-allocates_no_parts p = list_all (designates_no_parts p.types) p.types
-
--- An Initialize and a Finalize may be frugal in a program that allocates no object with controlled parts, or whose collections are created in order: where a
--- master is left, no object of an older collection that is not calm, and none that goes later, has a component that names what goes before it (7.6.1). And
--- operations stand apart: so an Initialize is called where an object is declared or allocated (7.6), and a Finalize where an object's master is left, an
--- exception comes out of the initialization of one (7.6.1), another record is assigned to it, or a variable or a component is freed that names it (13.11.2).
+-- An Initialize and a Finalize may be frugal in a program in which operations stand apart: so an Initialize is called where an object is declared or allocated
+-- (7.6), and a Finalize where an object's master is left, an exception comes out of the initialization of one (7.6.1), another record is assigned to it, or a
+-- variable or a component is freed that names it (13.11.2). While a master is left, its collections go one after the other, and components may name what has
+-- gone: by S8 no operation that is called then follows or frees such a value, since it uses collections alone that go later (7.6.1).
 abbrev pub may_be_frugal : ProgramForm → Bool
-may_be_frugal p = (allocates_no_parts p || collections_in_order p) && operations_stand_apart p
+may_be_frugal p = operations_stand_apart p
 
 -- How many components there are, if they are those of something.
 abbrev pub count_found : Option (List ComponentKind) → ℕ

@@ -1,21 +1,12 @@
--- What frugal bodies go by, as the code holds it, which procedures or types are marked, those of components among them, and which record types have
--- which number.
+-- Which procedures or types are marked, what frugal bodies go by, as the code holds it, and which record types have which number.
 
 use Rattle.std.specs.Prelude.{◌≡◌, ◌<◌, ℕ, suc, Bool, true, false, List, [], ◌∷◌, length, map, count_by, Option, Some, None}
 use Rattle.std.specs.List.{slice_index_or, slice_set}
 use Rattle.ada_program.specs.declared.program.TypeDefinition.{TypeDefinition}
 use Rattle.ada_program.specs.Controlled.{number_by, type_numbered, has_parts}
 use Rattle.ada_program.specs.Kept.{types_in}
-use Rattle.ada_program.specs.ProgramForm.{TypeForm}
-use Rattle.ada_quiet.specs.Bare.{record_has_component_of}
-use Rattle.ada_quiet.specs.declared.components.Held.{Held}
+use Rattle.ada_quiet.specs.declared.frugal.Thrift.{Thrift as HeldThrift}
 use Rattle.ada_quiet.specs.Frugal.{Thrift}
-
--- What frugal bodies go by, as the code holds it: the types, the collections of the main procedure, which record types are inert, which procedures have frugal
--- bodies where they are called, and whether the body is that of an operation.
-abbrev pub thrift_in : List TypeDefinition → (outermost : List ℕ) → (inert frugal : List Bool) → (operation : Bool) → Thrift
-thrift_in types outermost inert frugal operation =
-    record { types = types_in types; outermost = outermost; inert = inert; procedures = frugal; operation = operation }
 
 -- The procedure or the type of a number is marked. None behind the last mark is.
 abbrev pub is_marked : (marks : List Bool) → (number : ℕ) → Bool
@@ -31,10 +22,16 @@ abbrev pub marked_in : (marks : List Bool) → List ℕ
 marked_in [] = []
 marked_in (first ∷ marks) = with_first first (map suc (marked_in marks))
 
--- Of each record type that is marked, the types of the components are, those that are access types.
-abbrev pub AreHeld : List TypeForm → Held → Type 0
-AreHeld types held =
-    (n r : ℕ) → is_marked held.records.items r ≡ true → record_has_component_of types n (Some r) ≡ true → is_marked held.accesses.items n ≡ true
+-- What frugal bodies go by, as the code holds it: the types, the collections of the main procedure, which record types are inert, which procedures
+-- have frugal bodies where they are called, and whether the body is that of an operation.
+abbrev pub thrift_in : HeldThrift → Thrift
+thrift_in held = record {
+  types = types_in held.types.now;
+  outermost = marked_in held.outermost.now;
+  inert = held.inert.now;
+  procedures = held.procedures.now;
+  operation = held.operation;
+}
 
 -- Each place of a table has the record type of that number among those with controlled parts, if there is one (7.6).
 abbrev pub HasTypes : List TypeDefinition → (table : List (Option TypeDefinition)) → Type 0

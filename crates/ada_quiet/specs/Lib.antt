@@ -4,7 +4,7 @@
 pub mod Quiet
 -- types for whose objects no operation is called that touches storage
 pub mod Calm
--- access types whose objects have no controlled parts, and the collections of others
+-- access types whose objects have no controlled parts, and components of access types
 pub mod Bare
 -- programs that call no operation
 pub mod Idle

@@ -12,35 +12,11 @@ ghost use Rattle.ada_quiet.specs.Quiet.{adjusts_access};
 
 use crate::marks::has_mark;
 use crate::numbered::numbered_types;
-use crate::operations::{
-    adjusts_access, finalization_in, is_plain_operation, is_quiet_operation, overrides_nothing,
-};
+use crate::operations::{adjusts_access, finalization_in, overrides_nothing};
 use ada_program::parts::finalization_of;
 use ada_program::program::{ComponentKind, Finalization, Part, PartKind, TypeDefinition};
 use ada_program::{Program, TypeNo};
 use std::alloc::{AllocError, Global};
-
-/// Whether neither operation of a type that begins or ends an object touches storage: what overrides Initialize is plain, and what
-/// overrides Finalize is quiet (7.6). Linear in their bodies.
-///
-/// # Errors
-/// `AllocError` where memory for the exceptions that a body raises was refused.
-fn ends_calmly(
-    alloc: Global,
-    program: &Program,
-    finalization: Option<Finalization>,
-) -> Result<bool, AllocError>
-    ensures { IfOk result (λ answer. answer ≡ rules.ends_calmly (program_form program.now) finalization) }
-{
-    let Some(finalization) = finalization else {
-        return Ok(true);
-    };
-    let operations = finalization.operations;
-    Ok(
-        is_plain_operation(program, operations.initialize)
-            && is_quiet_operation(alloc, program, operations.finalize)?,
-    )
-}
 
 /// Whether it is known that a record type is calm, by how its objects are finalized: one without controlled parts is, and of one with some
 /// it is told by its number (7.6).
@@ -94,45 +70,6 @@ fn is_calm_type(
         } => own && are_calm_parts(types, calm, parts),
         TypeDefinition::Access { .. } | TypeDefinition::Object { .. } => false,
     }
-}
-
-/// Whether a type that was found is a record type that is calm where objects begin and end. Linear in its components, and the bodies of its
-/// operations.
-///
-/// # Errors
-/// `AllocError` where memory for the exceptions that a body raises was refused.
-fn is_calm_found(
-    alloc: Global,
-    program: &Program,
-    calm: &[bool],
-    definition: Option<&TypeDefinition>,
-) -> Result<bool, AllocError>
-    ensures { IfOk result (λ answer. answer ≡ rules.is_calm_found (λ t. rules.ends_calmly (program_form program.now) (finalization_in (Some t)))
-        (program_form program.now).types calm.now (option_map type_form (option_copied definition.entry))) }
-{
-    let Some(definition) = definition else {
-        return Ok(false);
-    };
-    let own = ends_calmly(alloc, program, finalization_in(definition))?;
-    Ok(is_calm_type(own, &program.types, calm, definition))
-}
-
-/// Of each record type with controlled parts, by its number among these, whether it is calm where objects begin and end: no operation is
-/// called there that touches storage. The types of its components have lesser numbers. Linear in the types, their components, and the
-/// bodies of their operations.
-///
-/// # Errors
-/// `AllocError` where memory was refused.
-pub(crate) fn calm_types(alloc: Global, program: &Program) -> Result<Vec<bool>, AllocError>
-    ensures { IfOk result (λ calm. calm.items ≡ rules.calm_types (program_form program.now)) }
-{
-    let numbered = numbered_types(alloc, &program.types)?;
-    let mut calm = Vec::new(alloc);
-    'numbered: for definition in &numbered {
-        let is_calm = is_calm_found(alloc, program, &calm, *definition)?;
-        calm.push(is_calm)?;
-    }
-    Ok(calm)
 }
 
 /// Whether a type that was found is a record type that is inert. Linear in its components.

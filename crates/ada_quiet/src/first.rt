@@ -9,16 +9,14 @@ ghost use Rattle.ada_quiet.specs.Calm.{calmly_copied_types};
 ghost use Rattle.ada_quiet.specs.First as rules;
 ghost use Rattle.ada_quiet.specs.First.{BeginsUnused, IsFirst, IsFirstUnused};
 ghost use Rattle.ada_quiet.specs.Frugal as spent;
-ghost use Rattle.ada_quiet.specs.InUse as in_use;
 ghost use Rattle.ada_quiet.specs.InUse.{operations_are_in_use, operations_may_be_called};
 ghost use Rattle.ada_quiet.specs.Quiet as quiet;
 
 use crate::calm::calmly_copied_types;
 use crate::frugal::frugal_operations;
-use crate::idle::{adjusts_nothing, are_idle};
+use crate::idle::are_idle;
 use crate::operations::has_access;
-use crate::tracking::{adjusts_alone, may_track, tracks_nothing};
-use crate::uses::{may_be_frugal, uses_adjust, uses_finalize, uses_initialize};
+use crate::uses::{Allowed, allowed_in, uses_adjust, uses_finalize, uses_initialize};
 use ada_program::parts::finalization_of;
 use ada_program::program::Finalization;
 use ada_program::{ProcedureNo, Program, Spot};
@@ -58,46 +56,6 @@ pub fn start_unless(program: &Program, fits: bool, operation: Option<ProcedureNo
     Some(procedure.start)
 }
 
-/// What operations may do in a program.
-#[derive(Clone, Copy)]
-struct Allowed {
-    /// Whether an Initialize and a Finalize may be frugal.
-    frugal: bool,
-    /// Whether no Adjust is called, and one may be frugal.
-    nothing: bool,
-    /// Whether an Adjust that may be called may be frugal.
-    freely: bool,
-    /// Whether an Adjust may track.
-    tracks: bool,
-    /// Whether the copy of a record adjusts one controlled part alone.
-    alone: bool,
-}
-
-/// What they may do in this one. Linear in the types, their components, and all bodies.
-///
-/// # Errors
-/// `AllocError` where memory was refused.
-fn allowed_in(alloc: Global, program: &Program) -> Result<Allowed, AllocError>
-    ensures frugal { IfOk result (λ allowed. allowed.frugal ≡ in_use.may_be_frugal (program_form program.now)) }
-    ensures nothing { IfOk result (λ allowed. allowed.nothing ≡ in_use.adjusts_nothing (program_form program.now)) }
-    ensures freely { IfOk result (λ allowed. allowed.freely ≡ in_use.may_adjust_frugally (program_form program.now)) }
-    ensures tracks { IfOk result (λ allowed. allowed.tracks ≡ in_use.may_track (program_form program.now)) }
-    ensures alone { IfOk result (λ allowed. allowed.alone ≡ in_use.adjusts_alone (program_form program.now)) }
-{
-    let frugal = may_be_frugal(alloc, program)?;
-    let nothing = adjusts_nothing(alloc, program)?;
-    let freely = frugal && tracks_nothing(program);
-    let tracks = may_track(alloc, program, frugal)?;
-    let alone = adjusts_alone(program);
-    Ok(Allowed {
-        frugal,
-        nothing,
-        freely,
-        tracks,
-        alone,
-    })
-}
-
 /// The first one of those that override the operations of a type and are not in use, by the procedures whose bodies are frugal, where
 /// this is allowed, by the types that are calm where objects are copied, and the type has such a component or not.
 fn unused_in(
@@ -119,18 +77,7 @@ fn unused_in(
     };
     let operations = finalization.operations;
     let begins = uses_initialize(program, frugal, may.frugal, operations.initialize);
-    let adjusts = uses_adjust(
-        alloc,
-        program,
-        frugal,
-        copied,
-        may.nothing,
-        may.freely,
-        may.tracks,
-        may.alone,
-        owns,
-        operations.adjust,
-    )?;
+    let adjusts = uses_adjust(alloc, program, frugal, copied, may, owns, operations.adjust)?;
     let ends = uses_finalize(alloc, program, frugal, may.frugal, operations.finalize)?;
     let initialize = start_unless(program, begins, operations.initialize);
     let adjust = start_unless(program, adjusts, operations.adjust);

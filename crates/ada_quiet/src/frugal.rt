@@ -3,27 +3,23 @@
 //! declare variables, and record objects whose components, at any depth, name objects of collections that the main procedure declares. What
 //! has controlled parts of these objects, and of what they allocate, is initialized by default (3.3.1, 7.6).
 
-ghost use Rattle.std.specs.Prelude.{◌≡◌, ◌&&◌, ◌||◌, ℕ, true, false, [], map, slice_index_or, IfOk, OnOk};
-ghost use Rattle.std.specs.List.{list_all};
-ghost use Rattle.std.specs.Option.{option_copied};
+ghost use Rattle.std.specs.Prelude.{◌≡◌, ◌&&◌, false, [], map, slice_index_or, IfOk};
 ghost use Rattle.ada_program.specs.Form.{StmtsForm, assigns_record, branches_form, declaration_form, handlers_form, initial_form, item_form, record_path_form, right_form, stmt_form, stmts_form};
 ghost use Rattle.ada_program.specs.Kept.{types_in};
-ghost use Rattle.ada_program.specs.Nested as nested;
 ghost use Rattle.ada_program.specs.ProgramForm.{body_form, program_form};
 ghost use Rattle.ada_quiet.specs.Calm as calm;
 ghost use Rattle.ada_quiet.specs.Frugal as rules;
-ghost use Rattle.ada_quiet.specs.Known.{is_marked, marked_in, thrift_in};
+ghost use Rattle.ada_quiet.specs.Known.{marked_in, thrift_in};
 
 use crate::apart::are_bare_items;
 use crate::bare::has_bare_objects;
 use crate::calm::{inert_types, is_known_calm};
 use crate::idle::holds_parts;
-use crate::marks::{has_mark, mark};
+use crate::outermost::{outermost_collections, record_nests};
 use ada_effects::record_path_raises;
-use ada_program::lookup::reached_components;
 use ada_program::parts::finalization_of;
 use ada_program::program::{
-    Branch, ComponentKind, Declaration, Handler, Item, Procedure, RecordPath, Right, TypeDefinition,
+    Branch, Declaration, Handler, Item, Procedure, RecordPath, Right, TypeDefinition,
 };
 use ada_program::{ProcedureNo, Program, Stmt, TypeNo};
 use std::alloc::{AllocError, Global};
@@ -43,44 +39,9 @@ struct Thrift<'a> {
     operation: bool,
 }
 
-/// Whether a component holds no access value (3.8), or values of an access type that is marked.
-#[tactic(auto, using(std::proofs::lemmas::Grind::common_steps, crate::proofs::MarkedNumbers::mark_steps))]
-fn kind_is_open(outermost: &[bool], component: ComponentKind) -> bool
-    ensures { result ≡ nested.kind_is_open (marked_in outermost.now) component }
-{
-    match component {
-        ComponentKind::Integer { initial: _ } | ComponentKind::Boolean { initial: _ } => true,
-        ComponentKind::Access(access) => has_mark(outermost, access.0),
-    }
-}
-
-/// Whether each of these components does. Linear in them.
-fn are_open(outermost: &[bool], components: &[ComponentKind]) -> bool
-    ensures { result ≡ list_all (nested.kind_is_open (marked_in outermost.now)) components.now }
-{
-    'components: for component in components {
-        if !kind_is_open(outermost, *component) {
-            return false;
-        }
-    }
-    true
-}
-
-/// Whether each component of the object that is known by a type does, at any depth: what they name lies in collections that last at least
-/// as long (3.10.2). Linear in the components.
-fn record_nests(types: &[TypeDefinition], outermost: &[bool], object: TypeNo) -> bool
-    ensures { result ≡ nested.record_nests (types_in types.now) (marked_in outermost.now) object.0 }
-{
-    match reached_components(types, object.0) {
-        Some(components) => are_open(outermost, components),
-        None => true,
-    }
-}
-
 /// Whether what is assigned is no new object (4.8), or one that has no controlled parts, or is initialized by default (7.6).
 fn allocates_frugally(thrift: Thrift<'_>, right: &Right) -> bool
-    ensures { let by = thrift_in thrift.entry.types.now (marked_in thrift.entry.outermost.now) thrift.entry.inert.now thrift.entry.procedures.now thrift.entry.operation in
-        result ≡ rules.allocates_frugally by (right_form right.now) }
+    ensures { result ≡ rules.allocates_frugally (thrift_in thrift.entry) (right_form right.now) }
 {
     match right {
         Right::Null | Right::Path(_) | Right::Default(_) | Right::Value(_) => true,
@@ -90,8 +51,7 @@ fn allocates_frugally(thrift: Thrift<'_>, right: &Right) -> bool
 
 /// Whether what a variable is given at first is, if it is given something (3.3.1).
 fn initial_allocates_frugally(thrift: Thrift<'_>, initial: &Option<Right>) -> bool
-    ensures { let by = thrift_in thrift.entry.types.now (marked_in thrift.entry.outermost.now) thrift.entry.inert.now thrift.entry.procedures.now thrift.entry.operation in
-        result ≡ rules.allocates_frugally by (initial_form initial.now) }
+    ensures { result ≡ rules.allocates_frugally (thrift_in thrift.entry) (initial_form initial.now) }
 {
     match initial {
         None => true,
@@ -109,8 +69,7 @@ fn is_bare_initial(types: &[TypeDefinition], object: TypeNo, items: &[Item]) -> 
 /// Whether a record object is of a type that is known to be inert: then nothing is called as it is adjusted (7.6), nor as its master is
 /// left (7.6.1).
 fn is_inert_initial(thrift: Thrift<'_>, object: TypeNo) -> bool
-    ensures { let by = thrift_in thrift.entry.types.now (marked_in thrift.entry.outermost.now) thrift.entry.inert.now thrift.entry.procedures.now thrift.entry.operation in
-        result ≡ rules.is_inert_initial by object.0 }
+    ensures { result ≡ rules.is_inert_initial (thrift_in thrift.entry) object.0 }
 {
     match thrift.types.get(object.0) {
         Some(
@@ -130,8 +89,7 @@ fn is_inert_initial(thrift: Thrift<'_>, object: TypeNo) -> bool
 /// Whether a declaration is that of a variable, and so it is with what that is given at first (3.3.1), or that of a record object that is
 /// initialized by default, or may get its initial value, and whose components name objects of outermost collections alone.
 fn is_frugal_declaration(thrift: Thrift<'_>, declaration: &Declaration) -> bool
-    ensures { let by = thrift_in thrift.entry.types.now (marked_in thrift.entry.outermost.now) thrift.entry.inert.now thrift.entry.procedures.now thrift.entry.operation in
-        result ≡ rules.is_frugal_declaration by (declaration_form declaration.now) }
+    ensures { result ≡ rules.is_frugal_declaration (thrift_in thrift.entry) (declaration_form declaration.now) }
 {
     match declaration {
         Declaration::Variable {
@@ -158,8 +116,7 @@ fn is_frugal_declaration(thrift: Thrift<'_>, declaration: &Declaration) -> bool
 
 /// Whether each of these declarations is.
 fn are_frugal_declarations(thrift: Thrift<'_>, declarations: &[Declaration]) -> bool
-    ensures { let by = thrift_in thrift.entry.types.now (marked_in thrift.entry.outermost.now) thrift.entry.inert.now thrift.entry.procedures.now thrift.entry.operation in
-        result ≡ rules.are_frugal_declarations by (map declaration_form declarations.now) }
+    ensures { result ≡ rules.are_frugal_declarations (thrift_in thrift.entry) (map declaration_form declarations.now) }
 {
     'declarations: for declaration in declarations {
         if !is_frugal_declaration(thrift, declaration) {
@@ -183,8 +140,7 @@ fn is_frugal_call(frugal: &[bool], procedure: ProcedureNo) -> bool
 /// hand: in a record variable, and no access value is followed on the way (4.1). If that is the formal parameter, which is the first
 /// variable, it is not that as a whole.
 fn assigns_at_hand(thrift: Thrift<'_>, target: &RecordPath) -> bool
-    ensures { let by = thrift_in thrift.entry.types.now (marked_in thrift.entry.outermost.now) thrift.entry.inert.now thrift.entry.procedures.now thrift.entry.operation in
-        result ≡ rules.assigns_at_hand by (record_path_form target.now) }
+    ensures { result ≡ rules.assigns_at_hand (thrift_in thrift.entry) (record_path_form target.now) }
 {
     let formal = target.object.root.0 == 0 && target.part.0 == 0;
     thrift.operation
@@ -196,8 +152,7 @@ fn assigns_at_hand(thrift: Thrift<'_>, target: &RecordPath) -> bool
 /// Whether a record that is assigned to as a whole lies so, if it has controlled parts; and else whether nothing is copied into it that
 /// has some (5.2).
 fn assigns_frugally(thrift: Thrift<'_>, target: &RecordPath, items: &[Item]) -> bool
-    ensures { let by = thrift_in thrift.entry.types.now (marked_in thrift.entry.outermost.now) thrift.entry.inert.now thrift.entry.procedures.now thrift.entry.operation in
-        result ≡ rules.is_frugal_stmt by (assigns_record (record_path_form target.now) (map item_form items.now)) }
+    ensures { result ≡ rules.is_frugal_stmt (thrift_in thrift.entry) (assigns_record (record_path_form target.now) (map item_form items.now)) }
 {
     if finalization_of(thrift.types, target.record.0).is_some() {
         assigns_at_hand(thrift, target)
@@ -212,8 +167,7 @@ fn assigns_frugally(thrift: Thrift<'_>, target: &RecordPath, items: &[Item]) -> 
 #[cycle(statements)]
 #[tactic(auto, using(std::proofs::lemmas::Grind::common_steps, ada_program::specs::Form::statement_rules))]
 fn is_frugal_stmt(thrift: Thrift<'_>, statement: &Stmt) -> bool
-    ensures { let by = thrift_in thrift.entry.types.now (marked_in thrift.entry.outermost.now) thrift.entry.inert.now thrift.entry.procedures.now thrift.entry.operation in
-        result ≡ rules.is_frugal_stmt by (stmt_form statement.now) }
+    ensures { result ≡ rules.is_frugal_stmt (thrift_in thrift.entry) (stmt_form statement.now) }
 {
     match statement {
         Stmt::Null
@@ -259,8 +213,7 @@ fn is_frugal_stmt(thrift: Thrift<'_>, statement: &Stmt) -> bool
 /// Whether statements are frugal.
 #[cycle(statements)]
 fn are_frugal(thrift: Thrift<'_>, statements: &[Stmt]) -> bool
-    ensures { let by = thrift_in thrift.entry.types.now (marked_in thrift.entry.outermost.now) thrift.entry.inert.now thrift.entry.procedures.now thrift.entry.operation in
-        result ≡ rules.are_frugal by (stmts_form statements.now) }
+    ensures { result ≡ rules.are_frugal (thrift_in thrift.entry) (stmts_form statements.now) }
 {
     'statements: for statement in statements {
         if !is_frugal_stmt(thrift, statement) {
@@ -273,8 +226,8 @@ fn are_frugal(thrift: Thrift<'_>, statements: &[Stmt]) -> bool
 /// Whether branches are (5.3).
 #[cycle(statements)]
 fn are_frugal_branches(thrift: Thrift<'_>, branches: &[Branch]) -> bool
-    ensures { let by = thrift_in thrift.entry.types.now (marked_in thrift.entry.outermost.now) thrift.entry.inert.now thrift.entry.procedures.now thrift.entry.operation in
-        (others : StmtsForm) → rules.are_frugal_branches by (branches_form branches.now others) ≡ (result && rules.are_frugal by others) }
+    ensures { (others : StmtsForm) → rules.are_frugal_branches (thrift_in thrift.entry) (branches_form branches.now others)
+        ≡ (result && rules.are_frugal (thrift_in thrift.entry) others) }
 {
     'branches: for branch in branches {
         if !are_frugal(thrift, &branch.statements) {
@@ -287,8 +240,7 @@ fn are_frugal_branches(thrift: Thrift<'_>, branches: &[Branch]) -> bool
 /// Whether handlers are (11.2).
 #[cycle(statements)]
 fn are_frugal_handlers(thrift: Thrift<'_>, handlers: &[Handler]) -> bool
-    ensures { let by = thrift_in thrift.entry.types.now (marked_in thrift.entry.outermost.now) thrift.entry.inert.now thrift.entry.procedures.now thrift.entry.operation in
-        result ≡ rules.are_frugal_handlers by (handlers_form handlers.now) }
+    ensures { result ≡ rules.are_frugal_handlers (thrift_in thrift.entry) (handlers_form handlers.now) }
 {
     'handlers: for handler in handlers {
         if !are_frugal(thrift, &handler.statements) {
@@ -303,38 +255,11 @@ fn are_frugal_handlers(thrift: Thrift<'_>, handlers: &[Handler]) -> bool
 /// components of no new one, and declares variables, and record objects whose components name objects of outermost collections alone. An
 /// exception may come out of it. Linear in the body.
 fn is_frugal_body(thrift: Thrift<'_>, procedure: &Procedure) -> bool
-    ensures { let by = thrift_in thrift.entry.types.now (marked_in thrift.entry.outermost.now) thrift.entry.inert.now thrift.entry.procedures.now thrift.entry.operation in
-        result ≡ rules.is_frugal_body by (body_form procedure.now) }
+    ensures { result ≡ rules.is_frugal_body (thrift_in thrift.entry) (body_form procedure.now) }
 {
     are_frugal_declarations(thrift, &procedure.declarations)
         && are_frugal(thrift, &procedure.statements)
         && are_frugal_handlers(thrift, &procedure.handlers)
-}
-
-/// The access types of the collections that declarations create are marked. Linear in the declarations, and in the types.
-fn mark_collected(marks: &mut Vec<bool>, declarations: &[Declaration]) -> Result<(), AllocError>
-    ensures { OnOk result ((t : ℕ) → is_marked marks.new.items t
-        ≡ (is_marked marks.old.items t || nested.is_one_of (nested.collected (map declaration_form declarations.now)) t)) }
-{
-    'declarations: for declaration in declarations {
-        if let Declaration::Collection(access) = declaration {
-            mark(marks, access.0)?;
-        }
-    }
-    Ok(())
-}
-
-/// Marks of the access types whose collections the main procedure declares. Linear in its declarations, and in the types.
-///
-/// # Errors
-/// `AllocError` where memory was refused.
-fn outermost_collections(alloc: Global, program: &Program) -> Result<Vec<bool>, AllocError>
-    ensures { IfOk result (λ marks. (t : ℕ) → is_marked marks.items t
-        ≡ nested.is_one_of (nested.collected (program_form program.now).declarations) t) }
-{
-    let mut outermost = Vec::new(alloc);
-    mark_collected(&mut outermost, &program.declarations)?;
-    Ok(outermost)
 }
 
 /// Of each procedure, by its number, whether its body is frugal where it is called, where these access types are outermost, and these types
@@ -367,28 +292,18 @@ fn frugal_by(
     Ok(frugal)
 }
 
-/// Of each procedure, by its number, whether its body is frugal as that of an operation, where this is known. Linear in the bodies.
+/// Of each procedure, by its number, whether its body is frugal by what is known. Linear in the bodies.
 ///
 /// # Errors
 /// `AllocError` where memory was refused.
-fn frugal_operations_by(
+fn are_frugal_bodies(
     alloc: Global,
     program: &Program,
-    outermost: &[bool],
-    inert: &[bool],
-    procedures: &[bool],
+    thrift: Thrift<'_>,
 ) -> Result<Vec<bool>, AllocError>
     ensures { IfOk result (λ frugal. frugal.items
-        ≡ map (rules.is_frugal_body (thrift_in program.now.types.items (marked_in outermost.now) inert.now procedures.now true))
-        (program_form program.now).bodies) }
+        ≡ map (rules.is_frugal_body (thrift_in thrift.entry)) (program_form program.now).bodies) }
 {
-    let thrift = Thrift {
-        types: &program.types,
-        outermost,
-        inert,
-        procedures,
-        operation: true,
-    };
     let mut frugal = Vec::new(alloc);
     'procedures: for procedure in &program.procedures {
         let is_frugal = is_frugal_body(thrift, procedure);
@@ -407,5 +322,12 @@ pub(crate) fn frugal_operations(alloc: Global, program: &Program) -> Result<Vec<
     let outermost = outermost_collections(alloc, program)?;
     let inert = inert_types(alloc, &program.types)?;
     let procedures = frugal_by(alloc, program, &outermost, &inert)?;
-    frugal_operations_by(alloc, program, &outermost, &inert, &procedures)
+    let thrift = Thrift {
+        types: &program.types,
+        outermost: &outermost,
+        inert: &inert,
+        procedures: &procedures,
+        operation: true,
+    };
+    are_frugal_bodies(alloc, program, thrift)
 }

@@ -4,12 +4,13 @@
 //! assigns a record with controlled parts as a whole only as below, and declares variables, which may be given what it allocates, and record
 //! objects whose components, at any depth, name objects of collections that the main procedure declares (3.10.2), those with controlled
 //! parts by default (3.3.1). The body of an operation may assign to a record with controlled parts as a whole that is inert, so that nothing
-//! is called, and that lies in a component of the formal parameter (5.2, 7.6); no access value is followed to it. What a frugal body frees may have controlled parts, whichever operation it is (13.11.2): the operations that end these run inside.
-//! So may what it declares, and what it allocates that is initialized by default (4.8, 7.6): the operations that begin these run inside as
-//! well, and those that end declared ones where their master is left. That a Finalize allocates is not refused here, but by rule S10. That
-//! what the declarations of bodies create comes back to none of them is asked by `ada_circles`. An exception may come out of a frugal
-//! Initialize; that none comes out of an Adjust or a Finalize, `ada_operations` asks of a program before. Which procedures are frugal is
-//! found before any operation is asked, in the order in which they call each other.
+//! is called, and that lies in a component of the formal parameter (5.2, 7.6); no access value is followed to it. What a frugal body frees
+//! may have controlled parts, whichever operation it is (13.11.2): the operations that end these run inside. So may what it declares, and
+//! what it allocates that is initialized by default (4.8, 7.6): the operations that begin these run inside as well, and those that end
+//! declared ones where their master is left. That a Finalize allocates is not refused here, but by rule S10. That what the declarations of
+//! bodies create comes back to none of them is asked by `ada_circles`. An exception may come out of a frugal Initialize; that none comes
+//! out of an Adjust or a Finalize, `ada_operations` asks of a program before. Which procedures are frugal is found before any operation is
+//! asked, in the order in which they call each other.
 //!
 //! Where nothing in the text of a program creates an object with controlled parts (3.3.1, 4.8), or assigns a record with some (5.2), no
 //! operation is called: operations are idle, and each is in use, whatever its body does. Where nothing in it copies such a record, no
@@ -23,14 +24,10 @@
 //! copies no record but into what it allocates, from another object than that of its formal parameter, and declares variables alone, none
 //! of which is of an access type whose objects have a part with an Adjust that tracks.
 //!
-//! An Initialize and a Finalize may be frugal in a program in which no access type designates a record type with controlled parts, so that
-//! these lie in declared objects alone. They may be frugal, too, in one whose access types designate such record types, if its collections
-//! are created in order: where the objects of one are not calm, neither they nor the objects of an older collection have a component of an
-//! access type whose collection is created later in the text (7.6.1). Then, where a master is left and newer collections go before older
-//! ones, they are finalized while each component still names what is there, or what went with their own collection. An object is calm, if
-//! no operation that touches storage may be called for it, or for a part of it, where it begins or ends: each Initialize is plain, and
-//! each Finalize is quiet. No operation follows a component while such an object is finalized. `may_be_frugal` tells whether a program is
-//! such a one.
+//! An Initialize and a Finalize may be frugal in a program in which operations stand apart, as below (`may_be_frugal`), whatever components
+//! the objects of its collections have, and in whatever order these are created. While a master is left, its collections go one after the
+//! other, the newest one first (7.6.1), and components may name what has gone. By rule S8, which `ada_operations` asks, no operation that
+//! is called then follows such a value or frees it: it uses collections alone that are created before that of its object, and go later.
 //!
 //! Variables and components free objects (13.11.2), whatever runs where these end. While an object is finalized that is freed, no component
 //! names it but the one that frees it, if one does; and nothing that runs there comes to the object in which that component lies:
@@ -68,8 +65,6 @@ mod apart;
 mod bare;
 mod bodies;
 mod calm;
-mod collections;
-mod components;
 mod first;
 mod frugal;
 mod idle;
@@ -77,6 +72,7 @@ pub mod laws;
 mod marks;
 mod numbered;
 mod operations;
+mod outermost;
 mod releases;
 mod simple;
 mod statements;

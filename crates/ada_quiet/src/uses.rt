@@ -1,60 +1,70 @@
-//! Where an Initialize and a Finalize may be frugal, and where these and an Adjust are in use (7.6, 7.6.1).
+//! What operations may do in a program, and where an Initialize, an Adjust and a Finalize are in use (7.6, 7.6.1).
 
 ghost use Rattle.std.specs.Prelude.{◌≡◌, IfOk};
-ghost use Rattle.ada_program.specs.ProgramForm.{program_form, type_form};
+ghost use Rattle.ada_program.specs.ProgramForm.{program_form};
 ghost use Rattle.ada_quiet.specs.Calm.{calmly_copied_types};
 ghost use Rattle.ada_quiet.specs.First as first;
 ghost use Rattle.ada_quiet.specs.Frugal.{frugal_operations};
 ghost use Rattle.ada_quiet.specs.InUse as rules;
 
 use crate::apart::operations_stand_apart;
-use crate::collections::collections_in_order;
+use crate::idle::adjusts_nothing;
 use crate::operations::{
     is_frugal_operation, is_overridden, is_plain_operation, is_quiet_operation, is_simple_operation,
 };
-use ada_program::parts::finalization_of;
-use ada_program::program::TypeDefinition;
+use crate::tracking::{adjusts_alone, may_track, tracks_nothing};
 use ada_program::{ProcedureNo, Program};
 use std::alloc::{AllocError, Global};
 
-/// Whether a type designates no record type with controlled parts (3.10, 7.6), if it is an access type.
-fn designates_no_parts(program: &Program, definition: &TypeDefinition) -> bool
-    ensures { result ≡ rules.designates_no_parts (program_form program.now).types (type_form definition.now) }
-{
-    match definition {
-        TypeDefinition::Access {
-            name: _,
-            designated,
-            pool: _,
-        } => finalization_of(&program.types, designated.0).is_none(),
-        _ => true,
-    }
-}
-
-/// Whether no access type designates a record type with controlled parts, so these lie in declared objects alone. Linear in the types.
-fn allocates_no_parts(program: &Program) -> bool
-    ensures { result ≡ rules.allocates_no_parts (program_form program.now) }
-{
-    'types: for definition in &program.types {
-        if !designates_no_parts(program, definition) {
-            return false;
-        }
-    }
-    true
-}
-
-/// Whether an Initialize and a Finalize may be frugal in a program: no object with controlled parts is allocated, or collections are
-/// created in order, and operations stand apart. Linear in the types, their components, and all bodies.
+/// Whether an Initialize and a Finalize may be frugal in a program: operations stand apart. Linear in the types, their components, and all
+/// bodies.
 ///
 /// # Errors
 /// `AllocError` where memory was refused.
 pub fn may_be_frugal(alloc: Global, program: &Program) -> Result<bool, AllocError>
     ensures { IfOk result (λ answer. answer ≡ rules.may_be_frugal (program_form program.now)) }
 {
-    Ok(
-        (allocates_no_parts(program) || collections_in_order(alloc, program)?)
-            && operations_stand_apart(alloc, program)?,
-    )
+    operations_stand_apart(alloc, program)
+}
+
+/// What operations may do in a program.
+#[derive(Clone, Copy)]
+pub(crate) struct Allowed {
+    /// Whether an Initialize and a Finalize may be frugal.
+    pub(crate) frugal: bool,
+    /// Whether no Adjust is called, and one may be frugal.
+    pub(crate) nothing: bool,
+    /// Whether an Adjust that may be called may be frugal.
+    pub(crate) freely: bool,
+    /// Whether an Adjust may track.
+    pub(crate) tracks: bool,
+    /// Whether the copy of a record adjusts one controlled part alone.
+    pub(crate) alone: bool,
+}
+
+/// What operations may do in this one. Linear in the types, their components, and all bodies.
+///
+/// # Errors
+/// `AllocError` where memory was refused.
+pub(crate) fn allowed_in(alloc: Global, program: &Program) -> Result<Allowed, AllocError>
+    ensures frugal { IfOk result (λ allowed. allowed.frugal ≡ rules.may_be_frugal (program_form program.now)) }
+    ensures nothing { IfOk result (λ allowed. allowed.nothing ≡ rules.adjusts_nothing (program_form program.now)) }
+    ensures freely { IfOk result (λ allowed. allowed.freely ≡ rules.may_adjust_frugally (program_form program.now)) }
+    ensures tracks { IfOk result (λ allowed. allowed.tracks ≡ rules.may_track (program_form program.now)) }
+    ensures alone { IfOk result (λ allowed. allowed.alone ≡ rules.adjusts_alone (program_form program.now)) }
+{
+    let frugal = may_be_frugal(alloc, program)?;
+    let nothing = adjusts_nothing(alloc, program)?;
+    let freely = frugal && tracks_nothing(program);
+    let tracks = may_track(alloc, program, frugal)?;
+    let alone = adjusts_alone(program);
+    Ok(Allowed {
+        frugal,
+        nothing,
+        freely,
+        tracks,
+        alone,
+    })
 }
 
 /// Whether what overrides Initialize is plain, or frugal, where it may be.
@@ -82,24 +92,22 @@ pub(crate) fn uses_adjust(
     program: &Program,
     procedures: &[bool],
     copied: &[bool],
-    nothing: bool,
-    freely: bool,
-    tracks: bool,
-    alone: bool,
+    may: Allowed,
     owns: bool,
     operation: Option<ProcedureNo>,
 ) -> Result<bool, AllocError>
     requires frugal { procedures.now ≡ frugal_operations (program_form program.now) }
     requires copied { copied.now ≡ calmly_copied_types (program_form program.now) }
-    ensures { IfOk result (λ answer. answer ≡ first.adjusts (program_form program.now) nothing freely tracks alone owns operation) }
+    ensures { IfOk result (λ answer. answer
+        ≡ first.adjusts (program_form program.now) may.nothing may.freely may.tracks may.alone owns operation) }
 {
-    if nothing && is_frugal_operation(procedures, operation) {
+    if may.nothing && is_frugal_operation(procedures, operation) {
         return Ok(true);
     }
     if !(owns && is_overridden(program, operation)) {
-        return is_quiet_or_frugal(alloc, program, procedures, freely, operation);
+        return is_quiet_or_frugal(alloc, program, procedures, may.freely, operation);
     }
-    Ok(tracks && is_simple_operation(program, copied, alone, operation))
+    Ok(may.tracks && is_simple_operation(program, copied, may.alone, operation))
 }
 
 /// Whether what overrides an operation is quiet, or frugal, where it may be.

@@ -286,7 +286,7 @@ first_there definitions others accessed o is =
 pub one_low :
     (lower : List Master) (heap : List Object) (n : ℕ) (own : Object) → slice_get heap n ≡ Some own → own.cell.home.item < height lower
     → AreLow (λ (o : Id). o.0 == n) lower heap
-one_low lower heap n own there below o x is at =
+one_low lower heap n own there below o x is at listed =
     let found : slice_get heap n ≡ Some x = subst (λ (i : ℕ). slice_get heap i ≡ Some x) (eqb-true o.0 n is) at in
     let same : own ≡ x = cc (there, found) in
     subst (λ (y : Object). y.cell.home.item < height lower) same below

@@ -36,7 +36,7 @@ use Rattle.ada_reaching.specs.Law.{AreApart, FirstHousesIts, GhostsStay, Innermo
 use Rattle.ada_reaching.proofs.Elsewhere.{elsewhere_drop, elsewhere_first, unary_elsewhere, binary_elsewhere, whole_elsewhere}
 use Rattle.ada_reaching.proofs.Going.{World, variables_in, Runs, LeftIn, Left, On, GoesRunning, OperandsSeek, ValueSeeks, changed_run, low_there, operands_run, stays, runs_on, sought, popped_runs, put_runs}
 use Rattle.ada_reaching.proofs.Masters.{declared_goes, in_own, left_run, older_owned, own_in, shorter_run}
-use Rattle.ada_reaching.proofs.Members.{IsMember, member_home, member_there}
+use Rattle.ada_reaching.proofs.Members.{IsMember, member_home, member_listed, member_there}
 use Rattle.ada_reaching.proofs.Paths.{Sound, Fine, by_ghost, found_there, in_sight, same_object, step_goes, record_goes}
 use Rattle.ada_reaching.proofs.Forms.{expression_goes, null_test_goes, links_go, outcome_goes, items_go, copies_go, right_goes, new_goes}
 use Rattle.ada_reaching.proofs.Frees.{free_in_goes}
@@ -125,7 +125,7 @@ module _ (w : World) where
       subst (λ (v : Value). IsInSight w.ghosts v) (sym f.named_so)
       (by_ghost w heap same f.name (w.ghosts f.name) refl
       (λ is.
-      let low = low_there w heap same f.name f.object is f.there in
+      let low = low_there w heap same f.name f.object is f.there (member_listed item f.object f.member) in
       let home = member_home item f.object f.member in
       omega (arith, own, low, home)))
 

@@ -57,6 +57,10 @@ module _ (heap : List Object) (item : ℕ) where
       one_there (members_of heap item) i
       (members_there 0 heap (λ j x at. let same : j ≡ 0 + j = omega arith in subst (λ (n : ℕ). slice_get heap n ≡ Some x) same at)) below
 
+-- A member is listed there.
+pub member_listed : (item : ℕ) (x : Object) → is_member item x ≡ true → x.listed ≡ true
+member_listed item x member = (and_parts x.listed (x.cell.home.item == item) member).0
+
 -- A member has its home in the item.
 pub member_home : (item : ℕ) (x : Object) → is_member item x ≡ true → x.cell.home.item ≡ item
 member_home item x is = eqb-true x.cell.home.item item (and_parts x.listed (x.cell.home.item == item) is).1

@@ -154,7 +154,7 @@ module _ (w : World) (s : State) (sound : Sound w s) (r : Runs w s) where
   newest_open (item ∷ items) own = inr (houses_none item.number own.0.1)
     where
       houses_none : (item : ℕ) → height w.lower ≤ item → HousesNoGhost w.ghosts s.heap item
-      houses_none item above = λ o x is at home. let low = low_there w s.heap r.same o x is at in omega (arith, above, low, home)
+      houses_none item above = λ o x is at listed home. let low = low_there w s.heap r.same o x is at listed in omega (arith, above, low, home)
 
   -- So it is with the innermost master that is left.
   innermost_open :

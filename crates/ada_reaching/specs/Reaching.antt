@@ -281,9 +281,10 @@ abbrev pub OperandSeeks : List TypeForm → (shuns : ℕ → Bool) → Apart →
 OperandSeeks types shuns apart ghosts heap Running k (Names o ∷ vs) = (x : Object) → object_at heap o ≡ Some x → Seeks types shuns apart (not (ghosts o)) x.cell.access k
 OperandSeeks types shuns apart ghosts heap mode k vs = Unit {0}
 
--- The home of each ghost is an item of the masters that were entered before (7.6.1).
+-- The home of each ghost that is in its collection is an item of the masters that were entered before (7.6.1).
 abbrev pub AreLow : (ghosts : Id → Bool) → (lower : List Master) → List Object → Type 0
-AreLow ghosts lower heap = (o : Id) (x : Object) → ghosts o ≡ true → object_at heap o ≡ Some x → x.cell.home.item < height lower
+AreLow ghosts lower heap =
+    (o : Id) (x : Object) → ghosts o ≡ true → object_at heap o ≡ Some x → x.listed ≡ true → x.cell.home.item < height lower
 
 -- Such bodies run, while the ghosts are there, some of them unnamed: in masters of their own, which were entered behind these.
 pub record IsReaching (p : ProgramForm) (shuns : ℕ → Bool) (apart : Apart) (ghosts unnamed : Id → Bool) (behind : List (Frame Value)) (lower : List Master)

@@ -36,10 +36,10 @@ use Rattle.ada_tracked.specs.Staying.{BodyIsSimple}
 use Rattle.ada_typed.proofs.Control as typed
 use Rattle.ada_typed.proofs.Kept.{behind_call}
 use Rattle.ada_sound.proofs.CallsApart.{CallApart}
-use Rattle.ada_sound.proofs.Callers.{Suspension, AreOf, callers_of, known_in}
+use Rattle.ada_sound.proofs.Callers.{AreCalls, Suspension, AreOf, known_in}
 use Rattle.ada_sound.proofs.CopiedOwners.{CopyLeft, NameThere, hiding, owners_left}
 use Rattle.ada_sound.proofs.FrugalControl.{Frugally}
-use Rattle.ada_sound.proofs.Invariant.{AdjustsAside, Control, Ready, Rooms, RunsOn, Standing, body_among, under_in}
+use Rattle.ada_sound.proofs.Invariant.{AdjustsAside, Control, Ready, Rooms, RunsOn, Standing, body_among}
 use Rattle.ada_sound.proofs.Judged.{known_judged}
 use Rattle.ada_sound.proofs.Operating.{IsCalm, WaitsFor}
 use Rattle.ada_sound.proofs.Allowance.{simple_allowance}
@@ -103,7 +103,7 @@ pub record Adjusting (program : Program) (s : State) : Type 0 where
   pub rests : RunsOn (known_in program procedure suspensions) after rooms holds
   pub aside : AdjustsAside (known_in program procedure suspensions) access record_type holds
   pub calm : IsCalm (behind_call behind)
-  pub settled : under_in (callers_of program suspensions) ≡ []
+  pub settled : AreCalls suspensions
   pub tracking : may_track (program_form program) ≡ true
   pub sees_to : are_calmly_copied_in (program_form program) access ≡ false
   pub may : may_be_frugal (program_form program) ≡ true

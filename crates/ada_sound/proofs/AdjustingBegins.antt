@@ -1,7 +1,7 @@
 -- The body of an Adjust that tracks components begins, after a copy of a record (7.6): the state that stands for the real one, which has a variable for each of
 -- them, is a sound one.
 
-use Rattle.std.proofs.Common.{◌≡◌, ◌≢◌, ◌≤◌, ℕ, ◌+◌, zero, suc, Bool, true, false, List, [], ◌∷◌, ◌++◌, length, drop, refl, sym, ap, ◌∙◌, subst, inl, inr}
+use Rattle.std.proofs.Common.{◌≡◌, ◌≢◌, ℕ, ◌+◌, zero, suc, Bool, true, false, List, [], ◌∷◌, ◌++◌, length, drop, refl, sym, ap, ◌∙◌, subst, inl, inr}
 use Rattle.std.specs.Prelude.{Option, Some, None}
 use Rattle.std.specs.List.{slice_get, slice_index_or}
 use Rattle.ada_deeds.specs.Implicit.{implicit_of}
@@ -36,6 +36,7 @@ use Rattle.ada_meaning.specs.State.{Activation, Master, height}
 use Rattle.ada_meaning.specs.Step.{given_places, operating}
 use Rattle.ada_meaning.specs.Named.{Object, State, named, object_at}
 use Rattle.ada_meaning.specs.Run.{Event}
+use Rattle.ada_owners.specs.Keeping.{IsThere}
 use Rattle.ada_owners.specs.Places.{access_at, is_there, variable}
 use Rattle.ada_owners.specs.Reliance.{Owns, Borrows, Says}
 use Rattle.ada_tracked.specs.Forms.{seen_right, seen_declarations, seen_stmt, seen_stmts, seen_branches, seen_handlers}
@@ -53,11 +54,12 @@ use Rattle.ada_sound.proofs.WatchedBy.{given_count, hold_calm, some_variable}
 use Rattle.ada_sound.proofs.Activations.{called_fit}
 use Rattle.ada_sound.proofs.Adjusting.{Adjusting, IsOfCopy}
 use Rattle.ada_sound.proofs.Alters.{Alters, alters_set, alters_then}
+use Rattle.ada_sound.proofs.Blanked.{out_blanked}
 use Rattle.ada_sound.proofs.BlankedBegins.{MayBeNamed, judged_begins, kind_of_access}
-use Rattle.ada_sound.proofs.Calls.{home_low, relied_says}
-use Rattle.ada_sound.proofs.Callers.{Suspension, Stands, caller_of, callers_of, known_in}
+use Rattle.ada_sound.proofs.Calls.{relied_says, there_low}
+use Rattle.ada_sound.proofs.Callers.{AreCalls, Suspension, Stands, caller_of, callers_of, known_in}
 use Rattle.ada_sound.proofs.Fits.{Fit, IsPlace, IsReferred, IsRelied, IsSaid, IsOwnedOutside, IsWithin, MayName, NoOuterAlias, component_access, none_spared, outer_access, outer_hold, owned_deeper, place_at, there_by}
-use Rattle.ada_sound.proofs.Invariant.{AdjustsAside, Control, CoveredIn, IsAwaited, Known, RunsOn, Spares, Unaliased, Working, body_among, outer_of, outers, under_in}
+use Rattle.ada_sound.proofs.Invariant.{AdjustsAside, Control, CoveredIn, IsAwaited, Known, LiesBelow, OneAwaits, RunsOn, Spares, Unaliased, Working, body_among, outer_of, outers}
 use Rattle.ada_sound.proofs.Judged.{known_judged}
 use Rattle.ada_sound.proofs.Operating.{IsCalm, WaitsFor, behind_operation}
 use Rattle.ada_sound.proofs.OperationStarts.{apart}
@@ -65,7 +67,7 @@ use Rattle.ada_sound.proofs.Orderings.{as_good}
 use Rattle.ada_sound.proofs.Returns.{same_types}
 use Rattle.ada_sound.proofs.FrugalControl.{waits_first}
 use Rattle.ada_sound.proofs.Allowance.{Allowance, body_more, allocates_thriftily, are_thrifty_declarations, is_thrifty_stmt, are_thrifty, are_thrifty_branches, are_thrifty_handlers, is_thrifty_body, simple_allowance}
-use Rattle.ada_sound.proofs.Stored.{stored_entered}
+use Rattle.ada_sound.proofs.Stored.{AllOut, none_departed, stored_entered}
 use Rattle.ada_sound.proofs.Touching.{resting}
 use Rattle.ada_sound.proofs.TouchingBegins.{IsAlone}
 use Rattle.ada_sound.proofs.Waiting.{stands_kept}
@@ -290,7 +292,8 @@ module _ (program : Program) (number : ℕ) (b : BodyForm) (there : slice_get (p
   abbrev FreesBare : Type 0
   FreesBare = (t : ℕ) → CoveredIn judging.implicit judging.program t → has_bare_objects known.program.types t ≡ true
 
-  module _ (frees_no_more : FreesNoMore) (frees_bare : FreesBare) where
+  -- In the state in which it begins, the words of all that is there are out.
+  module _ (frees_no_more : FreesNoMore) (frees_bare : FreesBare) (out : AllOut heap) where
     no_outer : (t : ℕ) → CoveredIn judging.implicit judging.program t → NoOuterAlias known.program.types (outers judging) t
     no_outer t may = (
       (λ d y of b'. (by_depth d y of b')),
@@ -315,22 +318,24 @@ module _ (program : Program) (number : ℕ) (b : BodyForm) (there : slice_get (p
     covers t may = (at.spares t (frees_no_more t may)).1
 
     -- What the waiting activation relies on lies in masters that were entered before.
-    variables_low : (y : ℕ) (q : Id) → IsRelied (hold_at at.works.holds y) → place_at a.places y ≡ Names q → (object : Object) × (object_at blank_heap q ≡ Some object) × (suc object.cell.home.item ≤ height s.masters)
+    is_low : (q : Id) → IsThere blank_heap q → LiesBelow blank_heap (height s.masters) (OneAwaits (callers_of program gs)) q
+    is_low q is =
+        there_low blank_heap s.masters (OneAwaits (callers_of program gs)) q at.works.stored is
+        (λ y departed. none_departed blank_heap (out_blanked w heap out) q y departed)
+
+    variables_low : (y : ℕ) (q : Id) → IsRelied (hold_at at.works.holds y) → place_at a.places y ≡ Names q → LiesBelow blank_heap (height s.masters) (OneAwaits (callers_of program gs)) q
     variables_low y q relied names =
-        home_low blank_heap s.masters q at.works.stored (there_by blank_heap _ q (relied_says blank_heap (hold_at at.works.holds y) _ q relied (at.works.fit.owners.fit.relied (variable y) q names)))
+        is_low q (there_by blank_heap _ q (relied_says blank_heap (hold_at at.works.holds y) _ q relied (at.works.fit.owners.fit.relied (variable y) q names)))
 
-    object_low : (object : Object) × (object_at blank_heap o ≡ Some object) × (suc object.cell.home.item ≤ height s.masters)
-    object_low = home_low blank_heap s.masters o at.works.stored (blank, found_blank, at.exists)
-
-    referred_low : (q : Id) (t : ℕ) → IsReferred (record { object = o; access = x.cell.access } ∷ []) q t → (object : Object) × (object_at blank_heap q ≡ Some object) × (suc object.cell.home.item ≤ height s.masters)
-    referred_low q t (inl (same, of)) = rw (← same) object_low
+    referred_low : (q : Id) (t : ℕ) → IsReferred (record { object = o; access = x.cell.access } ∷ []) q t → LiesBelow blank_heap (height s.masters) (OneAwaits (callers_of program gs)) q
+    referred_low q t (inl (same, of)) = rw (← same) (is_low o (blank, found_blank, at.exists))
     referred_low q t (inr other) = absurd other
 
     -- The body begins.
     pub adjusting_begins : IsOfCopy by → tracks_of p.types number b ≡ w.tracks → is_tracker p number ≡ true → BodyIsOrderly w.tracks b → hold_calm p.types (calmly_copied_types p) (drop 1 b.variables) ≡ true → may_track p ≡ true → are_calmly_copied_in p x.cell.access ≡ false → may_be_frugal p ≡ true → is_thrifty_body (simple_allowance p.types) false b ≡ true → FrameIsSimple w.tracks.first (Elaborates b.declarations b.statements b.handlers)
         → ((e : Exception) → body_among (implicit_of p) (known_judged program number w.tracks []).program e ≡ true → ⊥)
         → CallApart p.types (is_tracker p) (seen_state w begun).control → RunsAsJudged → BeginsAsJudged → TypedAsJudged
-        → (e : Event) (of : ℕ) → Alters s.heap e heap → WaitsFor p.types o of (begins by done) tasks k behind → Stands program gs (record s { activations = a ∷ rest }) → IsCalm (behind_call behind) → under_in (callers_of program gs) ≡ []
+        → (e : Event) (of : ℕ) → Alters s.heap e heap → WaitsFor p.types o of (begins by done) tasks k behind → Stands program gs (record s { activations = a ∷ rest }) → IsCalm (behind_call behind) → AreCalls gs
         → ((v : Value) → v ≢ Names o → NothingBegins v k)
         → AdjustsIn program o x.cell.access record_type tasks w begun
     adjusting_begins copies tracks_so tracker orderly alone_there tracking sees_to may frugal simple silent calls_apart runs_judged begins_judged typed_judged e of alters awaited stands calm settled untreated =

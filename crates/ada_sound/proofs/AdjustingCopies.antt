@@ -57,12 +57,11 @@ use Rattle.ada_sound.proofs.AdjustingEnters.{filled_in_program}
 use Rattle.ada_sound.proofs.AdjustingGoes.{adjusting_goes, adjusting_returns, adjusting_stored, is_watched, none_comes_out}
 use Rattle.ada_sound.proofs.AdjustingSeen.{simple_begins}
 use Rattle.ada_sound.proofs.AdjustingSteps.{GoesAdjusting, InAdjusting, IsOrderly, houses_none}
-use Rattle.ada_sound.proofs.Blanked.{alters_unblanked, blanked_at, ends_unblanked, says_unblanked, stored_unblanked, unblanked}
-use Rattle.ada_sound.proofs.CollectsApart.{apart_where_reached}
+use Rattle.ada_sound.proofs.Blanked.{alters_unblanked, blanked_at, ends_unblanked, out_blanked, says_unblanked, stored_unblanked, unblanked}
 use Rattle.ada_sound.proofs.CopiedOwners.{CopyLeft, NameThere, hiding, names_still, owners_left}
 use Rattle.ada_sound.proofs.Finalization.{parts_alive}
 use Rattle.ada_sound.proofs.FrugalControl.{is_return_first}
-use Rattle.ada_sound.proofs.InOrder.{in_order}
+use Rattle.ada_sound.proofs.WordsOut.{words_out}
 use Rattle.ada_sound.proofs.Invariant.{Control, EndsWell}
 use Rattle.ada_sound.proofs.NoneHidden.{blanked_none}
 use Rattle.ada_sound.proofs.Operating.{InBody, StepsTo}
@@ -132,9 +131,9 @@ module _ (program : Program) (well : IsWellFormed (program_form program)) (s : S
         rw (sym x.alike.parts)
         (parts_alive program well s reached p x.object x.found
         (listed_stand program reached.0 reached.1 s reached.2 p x.object x.found (x.alike.listed ∙ listed) (begins_nothing (Names p) (other_object p y found bare)))));
+    whole = out_blanked (hiding owners o) s.heap (words_out program s reached);
     two = collect_two (program_form program) s nested;
     fit = items_fit (program_form program) s nested;
-    ordered = in_order program well s nested (apart_where_reached program s reached) (program_form program).types refl s.masters refl;
   }
 
 -- The end of the body is not next, a simple body treats nothing, and a master that is left houses none.

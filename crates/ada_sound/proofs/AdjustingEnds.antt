@@ -10,7 +10,6 @@ use Rattle.ada_flow.specs.Flow.{Holds, all_give_back, gives_back, hold_at}
 use Rattle.ada_flow.specs.Tracking.{judged, with_tracked, tracked_numbers}
 use Rattle.ada_judged.specs.Fitting.{TracksComponents}
 use Rattle.ada_meaning.specs.declared.event.Birth.{Birth}
-use Rattle.ada_meaning.specs.declared.state.Id.{Id}
 use Rattle.ada_meaning.specs.declared.state.Mode.{Mode}
 use Rattle.ada_meaning.specs.declared.state.Mode.TheVariants.{Running, Raising, Exiting, Returning}
 use Rattle.ada_meaning.specs.declared.state.Place.{Place}
@@ -45,7 +44,7 @@ use Rattle.ada_sound.proofs.OperationCalls.{is_live}
 use Rattle.ada_sound.proofs.Operating.{behind_operation}
 use Rattle.ada_sound.proofs.Returns.{CrossesTo, same_types}
 use Rattle.ada_sound.proofs.Stored.{Stored}
-use Rattle.ada_sound.proofs.Waiting.{low_by}
+use Rattle.ada_sound.proofs.Waiting.{KeepsHomes, low_by}
 
 -- What is given back by all is given back by those that stand behind others.
 give_behind : (xs ys : List ℕ) (holds : Holds) → all_give_back (xs ++ ys) holds ≡ true → all_give_back ys holds ≡ true
@@ -306,11 +305,11 @@ module _ (program : Program) (s : State) (f : Adjusting program s) (a b : Activa
       };
     }
       where
-        at_home : (o : Id) (y : Object) → object_at (blanked f.w s.heap) o ≡ Some y → (z : Object) × (object_at heap o ≡ Some z) × (z.cell.home ≡ y.cell.home)
+        at_home : KeepsHomes (blanked f.w s.heap) heap
         at_home o y is =
             let first = unblanked f.w s.heap o y is in
             let second = unblanked hides heap o first.object (subst (λ (objects : List Object). object_at objects o ≡ Some first.object) aside first.found) in
-            (second.object, second.found, second.alike.home ∙ first.alike.home)
+            (second.object, second.found, second.alike.home ∙ first.alike.home, λ back. second.alike.out ∙ (first.alike.out ∙ back))
 
     pub crosses_back : CrossesTo program f.suspensions heap Quiet (left heap)
     crosses_back = record {

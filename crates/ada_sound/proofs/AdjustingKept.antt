@@ -37,7 +37,7 @@ use Rattle.ada_sound.proofs.Callers.{Suspension}
 use Rattle.ada_sound.proofs.Homes.{NoneIsUnder}
 use Rattle.ada_sound.proofs.Invariant.{Control, CoveredIn, Fine, IsCovered, IsFollowed, Known, Ready, Says, Standing, departs, departs_next, innermost, outers}
 use Rattle.ada_sound.proofs.Judged.{judged_in, known_judged}
-use Rattle.ada_sound.proofs.Leavings.{AreInOrder, HeldIn, NamedBelow}
+use Rattle.ada_sound.proofs.Leavings.{GoesWell, HeldIn, NamedBelow}
 use Rattle.ada_sound.proofs.Standing.{FinalizesIn, FreesAmong}
 use Rattle.ada_sound.proofs.Steps as inside
 use Rattle.ada_sound.proofs.Defaults.{Reaches}
@@ -52,7 +52,7 @@ StepsKeep known types bodies =
     → (may : ℕ → Bool) → FinalizesIn may known.program.types (outers known) types bodies t.mode t.control t → NoneIsUnder may (outers known).under t.heap
     → (t.mode ≡ Running → FreesAmong may t.control)
     → ((left : Mode) (k : Control) → t.mode ≡ Running → t.control ≡ Leaves left ∷ k
-    → HeldIn t.heap t.masters × NamedBelow (outers known) t.heap t.masters × AreInOrder known.ahead known.program.types (innermost t.masters))
+    → HeldIn t.heap t.masters × NamedBelow (outers known) t.heap t.masters × GoesWell known.program.types t.heap (innermost t.masters))
     → (t.mode ≡ Running → departs_next (departs known.ahead (innermost t.masters)) t.control ≡ false)
     → Ready known t → Fine known t.heap t.masters (next types bodies t)
 

@@ -45,13 +45,15 @@ use Rattle.ada_sound.proofs.AdjustingEnters.{adjust_called, called_operable, cop
 use Rattle.ada_sound.proofs.AdjustingGoes.{in_a_row}
 use Rattle.ada_sound.proofs.Alters.{Alters, alters_set}
 use Rattle.ada_sound.proofs.BareObjects.{frugal_frees_bare}
+use Rattle.ada_sound.proofs.Blanked.{out_blanked}
+use Rattle.ada_sound.proofs.Stored.{AllOut}
 use Rattle.ada_sound.proofs.CalmTypes.{components_are_calm}
-use Rattle.ada_sound.proofs.Callers.{Suspension, Stands, callers_of, known_in}
+use Rattle.ada_sound.proofs.Callers.{AreCalls, Suspension, Stands, known_in}
 use Rattle.ada_sound.proofs.CallsApart.{CallApart}
 use Rattle.ada_sound.proofs.ConfinedBodies.{confined_body, reaches_record}
 use Rattle.ada_sound.proofs.CopiedOwners.{BeginsCopy, CopyLeft, hiding, owners_left}
 use Rattle.ada_sound.proofs.Fits.{IsWithin}
-use Rattle.ada_sound.proofs.Invariant.{Control, CoveredIn, under_in}
+use Rattle.ada_sound.proofs.Invariant.{Control, CoveredIn}
 use Rattle.ada_sound.proofs.Judged.{judged_in}
 use Rattle.ada_sound.proofs.JudgedAdjusts.{judged_lets_none}
 use Rattle.ada_sound.proofs.JudgedApart.{judged_apart}
@@ -114,7 +116,7 @@ module _
     (program : Program) (well : IsWellFormed (program_form program)) (obeys : Obeys program) (none_out : LetsNothingOut (program_form program)) (copies : copies_parts (program_form program) ≡ true)
     (a : Activation Value) (rest : List (Activation Value)) (s : State) (gs : List Suspension) (v : Value) (k : Control) (IsOperated : Treatment → Id → ℕ → Type 0) (e : Event) (after : State)
     (c : BeginsAdjust (known_in program a.procedure gs) a rest s program.types.items (body_forms program) v k IsOperated e after)
-    (tracks : MayTrack (program_form program) c.b) (filled : AreFilled (program_form program).types (cells_of s.heap) (cells_of s.heap)) (typing : typed.Typed (program_form program) after)
+    (tracks : MayTrack (program_form program) c.b) (filled : AreFilled (program_form program).types (cells_of s.heap) (cells_of s.heap)) (out : AllOut s.heap) (typing : typed.Typed (program_form program) after)
   where
     abbrev p : ProgramForm
     p = program_form program
@@ -323,13 +325,13 @@ module _
 
     -- So it begins.
     begins_so :
-        is_tracker p c.number ≡ true → Stands program gs (record s { activations = a ∷ rest }) → IsCalm (behind_call k) → under_in (callers_of program gs) ≡ []
+        is_tracker p c.number ≡ true → Stands program gs (record s { activations = a ∷ rest }) → IsCalm (behind_call k) → AreCalls gs
         → CallApart p.types (is_tracker p) k → ((u : Value) → u ≢ Names o → NothingBegins u k) → AdjustsIn program o x.cell.access r c.tasks w begun
     begins_so tracker stands calm settled behind_apart untreated =
         let kept = keeps_tracking program c.number w.tracks in
         let waiting = resting a.procedure a.places (begins c.by c.done) o x.cell.access [] place behind s.masters kept at.works.rooms at.works.holds in
         adjusting_begins program c.number c.b c.there w lone components a rest gs s k o aside heap place refl within c.by c.done behind kept may_free r c.tasks at
-        frees_no_more frees_bare (of_copy c.by c.copies) refl tracker orderly none_other tracks.0 sees_to may thrifty simple
+        frees_no_more frees_bare (out_blanked (hiding owners o) s.heap out) (of_copy c.by c.copies) refl tracker orderly none_other tracks.0 sees_to may thrifty simple
         (judged_lets_none program well none_out copies x.cell.access c.of c.part c.number c.b (called_operable program well x.cell.access r c.of c.part c.tasks left) c.there
         (adjust_called c.by (operations_of program.types.items c.of) c.number c.copies c.called) w.tracks components orderly)
         (calls_apart behind_apart)
@@ -339,7 +341,7 @@ module _
 
     -- And so it begins in the real state.
     copy_so :
-        is_tracker p c.number ≡ true → Stands program gs (record s { activations = a ∷ rest }) → IsCalm (behind_call k) → under_in (callers_of program gs) ≡ []
+        is_tracker p c.number ≡ true → Stands program gs (record s { activations = a ∷ rest }) → IsCalm (behind_call k) → AreCalls gs
         → CallApart p.types (is_tracker p) k → ((u : Value) → u ≢ Names o → NothingBegins u k) → AdjustingCopy program real
     copy_so tracker stands calm settled behind_apart untreated =
         let f = begins_so tracker stands calm settled behind_apart untreated in
@@ -365,10 +367,10 @@ pub adjusting_starts :
     → (a : Activation Value) (rest : List (Activation Value)) (s : State) (gs : List Suspension) (v : Value) (k : Control) (IsOperated : Treatment → Id → ℕ → Type 0) (e : Event) (after : State)
     → (c : BeginsAdjust (known_in program a.procedure gs) a rest s program.types.items (body_forms program) v k IsOperated e after)
     → MayTrack (program_form program) c.b → is_tracker (program_form program) c.number ≡ true
-    → AreFilled (program_form program).types (cells_of s.heap) (cells_of s.heap) → typed.Typed (program_form program) after
-    → Stands program gs (record s { activations = a ∷ rest }) → IsCalm (behind_call k) → under_in (callers_of program gs) ≡ []
+    → AreFilled (program_form program).types (cells_of s.heap) (cells_of s.heap) → AllOut s.heap → typed.Typed (program_form program) after
+    → Stands program gs (record s { activations = a ∷ rest }) → IsCalm (behind_call k) → AreCalls gs
     → CallApart (program_form program).types (is_tracker (program_form program)) k → ((u : Value) → u ≢ Names c.to.o → NothingBegins u k)
     → AdjustingCopy program after
-adjusting_starts program well obeys none_out copies a rest s gs v k IsOperated e after c tracks tracker filled typing stands calm settled behind_apart untreated =
+adjusting_starts program well obeys none_out copies a rest s gs v k IsOperated e after c tracks tracker filled out typing stands calm settled behind_apart untreated =
     subst (AdjustingCopy program) (sym c.is)
-    (copy_so program well obeys none_out copies a rest s gs v k IsOperated e after c tracks filled typing tracker stands calm settled behind_apart untreated)
+    (copy_so program well obeys none_out copies a rest s gs v k IsOperated e after c tracks filled out typing tracker stands calm settled behind_apart untreated)

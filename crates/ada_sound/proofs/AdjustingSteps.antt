@@ -1,7 +1,7 @@
 -- Each step of the body of an Adjust that tracks components of its formal parameter (7.6), but its end: the state that stands for the real one takes a step,
 -- too, or stays as it is, and keeps what is known of it.
 
-use Rattle.std.proofs.Common.{◌≡◌, ℕ, Bool, true, false, List, [], ◌∷◌, ◌++◌, refl, sym, ◌∙◌, subst}
+use Rattle.std.proofs.Common.{◌≡◌, ℕ, Bool, true, false, List, [], ◌∷◌, ◌++◌, refl, sym, ◌∙◌, inl, inr, subst}
 use Rattle.std.specs.Prelude.{Option, Some}
 use Rattle.std.specs.List.{AllPairs}
 use Rattle.ada_deeds.specs.Implicit.{implicit_of}
@@ -44,18 +44,17 @@ use Rattle.ada_sound.proofs.Adjusting.{Adjusting, waiting}
 use Rattle.ada_sound.proofs.Coming.{each_next}
 use Rattle.ada_sound.proofs.AdjustingKept.{IsJudged, each_both, alters_matched, says_covered, says_matched, says_silent, standing_kept}
 use Rattle.ada_sound.proofs.AdjustingSeen.{SameRun, StandsFor, calls_or_copies, each_runs_on, frugal_alone, next_simple, seen_leaves, seen_within, simple_crosses, simple_still, stands_for, within}
-use Rattle.ada_sound.proofs.Ahead.{ahead_in}
 use Rattle.ada_sound.proofs.Alters.{Alters, alters_same}
 use Rattle.ada_sound.proofs.Below.{named_below}
-use Rattle.ada_sound.proofs.Blanked.{alters_unblanked, ends_unblanked, says_unblanked, stored_unblanked, unblanked}
-use Rattle.ada_sound.proofs.Callers.{AreOf}
+use Rattle.ada_sound.proofs.Blanked.{alters_unblanked, ends_unblanked, out_blanked, says_unblanked, unblanked}
+use Rattle.ada_sound.proofs.Callers.{AreOf, none_under}
 use Rattle.ada_sound.proofs.FrugalControl.{AreOwnedBy, Frugal, Frugally, GoesFrugally, is_return_first}
-use Rattle.ada_sound.proofs.FrugalLeaves.{frugal_stays, held_in_none, innermost_houses_none, leaves_own, owned_variables}
+use Rattle.ada_sound.proofs.FrugalLeaves.{frugal_stays, held_in_none, innermost_houses_none, leaves_own, owned_goes_well, owned_variables}
 use Rattle.ada_sound.proofs.FrugalSteps.{is_call_first, frugal_crosses, frugal_steps, none_ends, treats_none}
 use Rattle.ada_sound.proofs.Homes.{NoneIsUnder}
 use Rattle.ada_sound.proofs.Invariant.{Control, EndsWell, Fine, IsFollowed, Known, Parting, Ready, ReadyIn, RunsOn, Says, Standing, Stepped, departs, departs_next, innermost, outers}
 use Rattle.ada_sound.proofs.Judged.{known_judged}
-use Rattle.ada_sound.proofs.Leavings.{AreInOrder, HeldIn, NamedBelow}
+use Rattle.ada_sound.proofs.Leavings.{GoesWell, HeldIn, NamedBelow}
 use Rattle.ada_sound.proofs.Operating.{InBody, StepsTo}
 use Rattle.ada_sound.proofs.Returns.{same_types}
 use Rattle.ada_sound.proofs.Allowance.{simple_allowance}
@@ -63,8 +62,7 @@ use Rattle.ada_sound.proofs.InsideRecords.{object_inside, record_inside}
 use Rattle.ada_sound.proofs.FrugalFrees.{bare_by, frees_bare, records_bare_by}
 use Rattle.ada_sound.proofs.Standing.{AllStand, FinalizesBy, FinalizesIn, FreesAmong}
 use Rattle.ada_sound.proofs.Steps as inside
-use Rattle.ada_sound.proofs.Stored.{IsUnder, Stored}
-use Rattle.ada_sound.proofs.StoredStates.{ready_stored}
+use Rattle.ada_sound.proofs.Stored.{AllOut, IsUnder, none_departed}
 use Rattle.ada_sound.proofs.Trackers.{tracks_apart}
 use Rattle.ada_sound.proofs.TracksWell.{frees_bare_spared, tracked_bare}
 
@@ -84,14 +82,14 @@ InAdjusting program s f e after = (c : InBody program (Adjusting program) s.heap
 abbrev pub GoesAdjusting : (program : Program) (s : State) → Adjusting program s → Next → Type 0
 GoesAdjusting program s f n = StepsTo (InAdjusting program s f) s n
 
--- What is known of the objects and the masters of a state: each bare object that is in its collection has the values of all its parts, collections are of two
--- types each, what masters own fits the types, and what the innermost master owns goes in order where that is left.
+-- What is known of the objects and the masters of a state: each bare object that is in its collection has the values of all its parts, the words of each one that
+-- is there are out, collections are of two types each, and what masters own fits the types.
 pub record IsOrderly (program : Program) (s : State) : Type 0 where
   pub stand : (o : Id) (x : Object) → object_at s.heap o ≡ Some x → x.listed ≡ true → is_access (program_form program).types x.cell.access ≡ true
       → has_bare_objects (program_form program).types x.cell.access ≡ true → all_alive x.cell.parts ≡ true
+  pub whole : AllOut s.heap
   pub two : AllPairs CollectTwoTypes (items_of s.masters)
   pub fit : ItemsFit (program_form program).types (items_of s.masters)
-  pub ordered : AreInOrder (ahead_in (program_form program)) (program_form program).types (innermost s.masters)
 
 -- A master of the body is left: it owns variables alone, and no object has its home there.
 module _ (program : Program) (s : State) (f : Adjusting program s) where
@@ -177,13 +175,14 @@ module _
       by Returning k ms q = tt
 
   -- Where the other one leaves a master, no object has its home there, and what callers rely on lies in outer ones.
-  low : (left : Mode) (k : Control) → f.t.mode ≡ Running → f.t.control ≡ Leaves left ∷ k → HeldIn f.t.heap f.t.masters × NamedBelow (outers known) f.t.heap f.t.masters × AreInOrder known.ahead known.program.types (innermost f.t.masters)
+  low : (left : Mode) (k : Control) → f.t.mode ≡ Running → f.t.control ≡ Leaves left ∷ k → HeldIn f.t.heap f.t.masters × NamedBelow (outers known) f.t.heap f.t.masters × GoesWell known.program.types f.t.heap (innermost f.t.masters)
   low left k runs at =
+      let fits : ItemsFit known.program.types (items_of f.t.masters) = rw of_t.masters (subst (λ (types : List TypeForm). ItemsFit types (items_of s.masters)) (sym types_are) orderly.fit) in
       let parting : Parting known f.t.heap (places f.t) f.t.masters (RunsOn known (Leaves left ∷ k)) = rw (runs, at) at f.ready.1 in (
-        held_in_none known f.t.heap (places f.t) f.t.masters (RunsOn known (Leaves left ∷ k)) parting (simple_allowance p.types) (own_masters program s f left k at)
-            (rw of_t.masters (subst (λ (types : List TypeForm). ItemsFit types (items_of s.masters)) (sym types_are) orderly.fit)) (λ objects. absurd (cc objects)),
+        held_in_none known f.t.heap (places f.t) f.t.masters (RunsOn known (Leaves left ∷ k)) parting (simple_allowance p.types) (own_masters program s f left k at) fits
+            (λ objects. absurd (cc objects)),
         named_below known f.t.heap f.standing.waiting f.standing.low left k f.t.masters parting,
-        rw of_t.masters (subst (λ (types : List TypeForm). AreInOrder (ahead_in p) types (innermost s.masters)) (sym types_are) orderly.ordered),
+        owned_goes_well (simple_allowance p.types) known.program.types (λ objects. absurd (cc objects)) f.t.heap f.t.masters (own_masters program s f left k at) fits,
       )
 
   -- So no collection is left there.
@@ -197,8 +196,14 @@ module _
   freely : FreesAmong bare_types f.t.control
   freely = frees_bare (simple_allowance p.types) refl f.behind [] f.t.mode f.t.control f.frugal.upper f.frugal.frugally
 
+  -- The words of all that is there are out in the other one, too; and nothing is under way.
+  out_there : AllOut f.t.heap
+  out_there = subst AllOut (sym of_t.heap) (out_blanked f.w s.heap orderly.whole)
+
   none_is_under : NoneIsUnder bare_types (outers known).under f.t.heap
-  none_is_under o x under found = let none : IsUnder [] o = subst (λ (all : List Id). IsUnder all o) f.settled under in absurd none
+  none_is_under o x (inl under) found =
+      let none : IsUnder [] o = subst (λ (all : List Id). IsUnder all o) (none_under program f.suspensions f.settled) under in absurd none
+  none_is_under o x (inr departed) found = none_departed f.t.heap out_there o x departed
 
   -- No allocator copies a record with controlled parts, or makes an object with some from items.
   bare_there : AllocatesBare known.program known.implicit known.touches f.t.control
@@ -237,22 +242,9 @@ module _
   simple_on : AllStaySimple f.w.tracks.first (next tds bodies s)
   simple_on = stay_simple tds bodies f.w.tracks.first s (within f.w.tracks.first s.control f.simple inner)
 
-  -- The words of the object are out: it exists.
-  out_there : watched.object.out ≡ true
-  out_there = go watched.object.out refl
-    where
-      go : (b : Bool) → watched.object.out ≡ b → b ≡ true
-      go true is = refl
-      go false is =
-          let stored = ready_stored known f.t f.ready in
-          let here : Stored stored.0 (blanked f.w s.heap) f.t.masters = subst (λ (heap : List Object). Stored stored.0 heap f.t.masters) of_t.heap stored.1 in
-          let sane = (stored_unblanked f.w s.heap here).sane f.w.object watched.object watched.at_object in
-          let gone = sane.back_gone is in
-          let exists = watched.existing in
-          absurd (cc (gone, exists))
-
+  -- The object is there.
   followed : IsFollowed (Names f.w.object) s.heap
-  followed = record { id = f.w.object; object = watched.object; is = refl; found = watched.at_object; out = out_there }
+  followed = record { id = f.w.object; object = watched.object; is = refl; found = watched.at_object; there = rw watched.existing refl }
 
   -- The real run goes on in the same body, whose formal parameter stays; and the other one is typed still, and calls nothing that tracks.
   abbrev Runs : State → Type 0

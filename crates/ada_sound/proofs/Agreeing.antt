@@ -20,7 +20,7 @@ use Rattle.ada_meaning.specs.declared.state.Value.TheVariants.{Null, Names, Scal
 use Rattle.ada_meaning.specs.declared.state.Mode.TheVariants.{Running}
 use Rattle.ada_meaning.specs.Frame.{Does, Treatment}
 use Rattle.ada_meaning.specs.Frame as frame
-use Rattle.ada_meaning.specs.State.{Master}
+use Rattle.ada_meaning.specs.State.{Master, Owned}
 use Rattle.ada_meaning.specs.Heap.{finds}
 use Rattle.ada_meaning.specs.Step.{places, last_of, selected, treating, procedure_of}
 use Rattle.ada_meaning.specs.Beginning.{BeginsStatement}
@@ -38,11 +38,11 @@ use Rattle.ada_owners.proofs.Kernel.{same_place, of_same}
 use Rattle.ada_owners.proofs.Objects.{present_at}
 use Rattle.ada_owners.proofs.Changes.{store_access, store_reads}
 use Rattle.ada_finalized.specs.Law.{NoOperationRuns}
-use Rattle.ada_sound.specs.Always.{AgreesThere, AgreesWhileLeft}
+use Rattle.ada_sound.specs.Always.{AgreesThere, AgreesWhileLeft, WordsAreOut}
 use Rattle.ada_sound.specs.Agreement.{Exists, IsValid, IsAs, Turning, here, IsFlowAt, IsBehind, IsSpokenOf, running_procedure, component_access, IsKept, IsOwning, IsCleared, Agrees, value_in}
 use Rattle.ada_sound.specs.Agreement as agreement
 use Rattle.ada_sound.proofs.Items as items
-use Rattle.ada_sound.proofs.Stored.{Stored, exists_out}
+use Rattle.ada_sound.proofs.Stored.{Stored}
 use Rattle.ada_sound.proofs.Back.{stored_before}
 use Rattle.ada_sound.proofs.Calm.{behind_calm, filled_in}
 use Rattle.ada_sound.proofs.Steps.{heap_typed}
@@ -60,16 +60,22 @@ use Rattle.ada_sound.proofs.Departing as departing
 use Rattle.ada_sound.proofs.DepartingSights.{is_being_left, stands_for}
 use Rattle.ada_sound.proofs.SeenGrounds.{seen_typed}
 use Rattle.ada_sound.proofs.Starts.{Ordinary, Sound}
+use Rattle.ada_sound.proofs.WordsOut.{words_out}
 use Rattle.ada_sound.proofs.Adjusting.{AdjustingCopy}
 use Rattle.ada_typed.proofs.Kept.{behind_call}
 
--- What is in its collection exists, and an open collection of its type is its home.
+-- What is there exists, and an open collection of its type is its home, if its words are out.
 exists_there : {under : List Id} {heap : List Object} {masters : List Master} (o : Id) (x : Object) (access : Option ℕ) → Stored under heap masters → object_at heap o ≡ Some x → is_there x.stage ≡ true → access ≡ Some x.cell.access → Exists heap masters access o
-exists_there {heap = heap} {masters = masters} o x access stored found listed of_type =
-    let sane = stored.sane o x found in
-    let exists = sane.there_exists listed in
-    let i = items.contains_item x.cell.home.item x.cell.access x.cell.home.pool (items_of masters) (sane.housed (exists_out o x found exists stored)) in
-    (x, found, exists, of_type, (i.0, i.1, i.2, i.3))
+exists_there {heap = heap} {masters = masters} o x access stored found there of_type =
+    let sane = stored.sane o x found in (
+      x,
+      found,
+      sane.there_exists there,
+      of_type,
+      λ out.
+          let i = items.contains_item x.cell.home.item x.cell.access x.cell.home.pool (items_of masters) (sane.housed out) in
+          (i.0, i.1, i.2, i.3),
+    )
 
 exists_by : {under : List Id} {heap : List Object} {masters : List Master} (access : Option ℕ) (o : Id) → Stored under heap masters → IsOf (access_at heap) access o → Exists heap masters access o
 exists_by None o stored of = absurd of
@@ -316,16 +322,16 @@ module _ (program : Program) (s : State) (b : BeginsStatement s) where
       resumes_agrees program s f.suspensions (seen_fits (program_form program) well (running_procedure s)) types.inside f.stands.behind b (rw (b.runs, b.first) at (f.ready.1))
 
 -- No statement begins where a member of a collection that goes is treated.
-none_begins : {access master item : ℕ} {pool : Option ℕ} {ghosts : Id → Bool} {heap : List Object} (k : Control) (fs : StmtsForm) (outer : Control) → IsLeft access master item pool ghosts heap k → k ≡ Does fs ∷ outer → ⊥
+none_begins : {owned : Owned} {master item : ℕ} {ghosts : Id → Bool} {heap : List Object} (k : Control) (fs : StmtsForm) (outer : Control) → IsLeft owned master item ghosts heap k → k ≡ Does fs ∷ outer → ⊥
 none_begins k fs outer (departing.next_member mode j) is = cc is
-none_begins k fs outer (departing.treated o tasks mode j plain has) is = cc is
-none_begins k fs outer (departing.confined o tasks mode j plain has) is = cc is
-none_begins k fs outer (departing.ended o mode j plain has) is = cc is
+none_begins k fs outer (departing.treated access pool o tasks mode j own plain has) is = cc is
+none_begins k fs outer (departing.confined access pool o tasks mode j own plain has) is = cc is
+none_begins k fs outer (departing.ended access pool o mode j own plain has) is = cc is
 
 -- Wherever a statement begins, but in the body of an operation that touches Integers and Booleans alone, or of an Adjust that tracks components. While an operation
--- runs for a member of a collection that goes, flow agrees with the state that stands for this one.
-pub agrees_at : (program : Program) (s : State) → Sound program s → BeginsStatement s → IsSpokenOf program s → AgreesThere program s ⊎ AgreesWhileLeft program s
-agrees_at program s sound b spoken = by sound.goes
+-- runs for a member of a collection that goes, flow agrees with the state that stands for this one. The words of each object that exists are out.
+pub agrees_at : (program : Program) (s : State) → Sound program s → BeginsStatement s → IsSpokenOf program s → WordsAreOut s × (AgreesThere program s ⊎ AgreesWhileLeft program s)
+agrees_at program s sound b spoken = (λ o x found exists. words_out program s sound.reached o x found (rw exists refl), by sound.goes)
   where
     untold : (d : AdjustingCopy program s) → IsSpokenOf program s → ⊥
     untold d (inl none) =

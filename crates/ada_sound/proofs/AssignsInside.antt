@@ -1,23 +1,22 @@
 -- What operations assign to records with controlled parts as wholes (5.2, 7.6), where they may be called: that lies inside of their formal parameters, or in record
 -- objects that they declare.
 
-use Rattle.std.proofs.Common.{◌≡◌, ℕ, zero, suc, Bool, true, false, ◌&&◌, ◌||◌, List, [], ◌∷◌, map, refl, ◌⊎◌, inl, inr}
+use Rattle.std.proofs.Common.{◌≡◌, ℕ, Bool, true, false, ◌&&◌, ◌||◌, List, [], ◌∷◌, refl, ◌⊎◌, inl, inr}
 use Rattle.std.specs.Prelude.{Option, Some, None, is_some, not, if◌then◌else◌, ◌==◌}
-use Rattle.std.specs.List.{list_all, slice_get, slice_index_or}
+use Rattle.std.specs.List.{list_all, slice_get}
 use Rattle.std.proofs.lemmas.Bool.{and_from, and_parts, or_cases}
 use Rattle.ada_assigned.specs.Law.{assigns_inside, all_assign_inside, branches_assign_inside, handlers_assign_inside, body_assigns_inside, lies_at_hand, operation_assigns_inside, operations_assign_inside, procedure_assigns_inside, type_assigns_inside}
 use Rattle.ada_effects.specs.Effects.{is_behind_value, record_path_raises}
 use Rattle.ada_program.specs.declared.program.Finalization.{Finalization}
 use Rattle.ada_program.specs.declared.program.ProcedureNo.{ProcedureNo}
-use Rattle.ada_program.specs.declared.program.Program.{Program}
 use Rattle.ada_program.specs.Form.{RecordPathForm, ItemForm, StmtForm, skips, assigns, assigns_record, frees, gets, writes, writes_text, chooses, repeats, counts, exits, calls, returns, raises, encloses, StmtsForm, no_stmts, a_stmt, BranchesForm, otherwise, a_branch, HandlersForm, no_handlers, a_handler}
-use Rattle.ada_program.specs.ProgramForm.{TypeForm, BodyForm, ProgramForm, program_form}
-use Rattle.ada_program.specs.WellFormed.{IsWellFormed, finalization_in, finalization_of}
+use Rattle.ada_program.specs.ProgramForm.{TypeForm, BodyForm, ProgramForm}
+use Rattle.ada_program.specs.WellFormed.{finalization_in, finalization_of}
 use Rattle.ada_quiet.proofs.FrugalAt.{operation_at}
 use Rattle.ada_quiet.proofs.QuietFrugal.{frugal_body}
 use Rattle.ada_quiet.specs.Apart.{is_bare_item}
 use Rattle.ada_quiet.specs.Calm.{calmly_copied_types, is_known_calm}
-use Rattle.ada_quiet.specs.Frugal.{Thrift, assigns_at_hand, are_frugal_declarations, frugal_operations, is_frugal_stmt, are_frugal, are_frugal_branches, are_frugal_handlers, is_frugal_body, is_frugal_operation, thrift_of}
+use Rattle.ada_quiet.specs.Frugal.{Thrift, assigns_at_hand, are_frugal_declarations, is_frugal_stmt, are_frugal, are_frugal_branches, are_frugal_handlers, is_frugal_body, is_frugal_operation, thrift_of}
 use Rattle.ada_quiet.specs.InUse.{adjusts_alone, adjusts_nothing, may_adjust_frugally, may_be_frugal, may_track, operations_may_be_called, uses_adjust, uses_called_adjust, uses_finalize, uses_initialize, uses_operations}
 use Rattle.ada_quiet.specs.Quiet.{has_access, operation_body, is_plain_body, is_plain_operation, is_quiet_body, is_quiet_operation}
 use Rattle.ada_quiet.specs.Simple.{is_simple_body, is_simple_operation}

@@ -15,7 +15,7 @@ use Rattle.ada_sound.proofs.Stored.{Sane, Stored}
 
 -- What is so of an object with another value in a component is so of the object.
 sane_before : {under : List Id} {items : List Item} (o : Id) (x : Object) (c : ℕ) (v : Value) → Sane under items o (filled c v x) → Sane under items o x
-sane_before o x c v h = record { back_gone = h.back_gone; listed_exists = h.listed_exists; there_exists = h.there_exists; housed = h.housed; out_listed = h.out_listed }
+sane_before o x c v h = record { back_unlisted = h.back_unlisted; listed_exists = h.listed_exists; there_exists = h.there_exists; housed = h.housed; out_listed = h.out_listed }
 
 module _ {under : List Id} (heap : List Object) (ms : List Master) (o : Id) (c : ℕ) (v : Value) where
   filled_before : (x : Object) → object_at heap o ≡ Some x → Stored under (slice_set heap o.0 (filled c v x)) ms → Stored under heap ms

@@ -1,40 +1,25 @@
 -- Where operations may touch storage, what those free that free no object with controlled parts has none; and what they are called for has some, or is a
 -- declared object (7.6, 3.10).
 
-use Rattle.std.proofs.Common.{◌≡◌, ℕ, true, false, ◌||◌, List, refl, ap, ◌⊎◌, inl, inr}
+use Rattle.std.proofs.Common.{◌≡◌, ℕ, true, false, List, refl, ap}
 use Rattle.std.specs.Prelude.{Option, Some, None, is_some}
-use Rattle.std.specs.List.{list_all, slice_get}
-use Rattle.std.proofs.lemmas.Bool.{or_cases}
-use Rattle.ada_deeds.proofs.Naming.{all_at}
+use Rattle.std.specs.List.{slice_get}
 use Rattle.ada_deeds.specs.Implicit.{implicit_of}
 use Rattle.ada_meaning.proofs.Places.{is_declared}
 use Rattle.ada_program.specs.declared.program.Finalization.{Finalization}
 use Rattle.ada_program.specs.declared.program.Program.{Program}
 use Rattle.ada_program.specs.ProgramForm.{TypeForm, record_of, access_to, object_of, BodyForm, ProgramForm, program_form, seen_in}
-use Rattle.ada_program.specs.WellFormed.{IsWellFormed, designated_in, finalization_in, finalization_of, is_access, named_in, object_named}
-use Rattle.ada_quiet.specs.Apart.{operations_stand_apart}
-use Rattle.ada_quiet.specs.Bare.{collections_in_order, has_bare_objects, is_bare_access}
-use Rattle.ada_quiet.specs.InUse.{designates_no_parts, allocates_no_parts, may_be_frugal}
+use Rattle.ada_program.specs.WellFormed.{IsWellFormed, finalization_in, finalization_of, named_in, object_named}
+use Rattle.ada_quiet.specs.Bare.{has_bare_objects, is_bare_access}
 use Rattle.ada_sound.proofs.FrugalUseFrees.{covered_bare}
 use Rattle.ada_sound.proofs.FrugalUseParts.{some_parts, walked_parts}
 use Rattle.ada_sound.proofs.Invariant.{CoveredIn}
 use Rattle.ada_sound.proofs.Allowance.{is_thrifty_body, simple_allowance}
-use Rattle.ada_sound.proofs.OperationStarts.{apart}
 use Rattle.ada_typed.specs.Holding.{PartsLie, WalksTo}
 use Rattle.ada_typed.proofs.Inner.{lies_at}
 use Rattle.ada_typed.proofs.Lying.{IsOperable}
 
 module _ (types : List TypeForm) where
-  -- Where no access type designates a record type with controlled parts, the objects of each are bare.
-  bare_access : list_all (designates_no_parts types) types ≡ true → (t : ℕ) → is_access types t ≡ true → has_bare_objects types t ≡ true
-  bare_access none t is = by (slice_get types t) refl is
-    where
-      by : (o : Option TypeForm) → slice_get types t ≡ o → is_some (designated_in o) ≡ true → is_bare_access types o ≡ true
-      by None at is' = absurd (cc is')
-      by (Some (record_of name parts components finalization)) at is' = absurd (cc is')
-      by (Some (access_to name designated pool)) at is' = all_at (designates_no_parts types) types t (access_to name designated pool) none at
-      by (Some (object_of record_type)) at is' = absurd (cc is')
-
   -- An object in which a record with controlled parts lies has some, too.
   walked_bare : (t first part : ℕ) (o : Option TypeForm) → WalksTo types (named_in o) (Some t) first part → is_some (finalization_of types t) ≡ true → is_bare_access types o ≡ false
   walked_bare t first part None walks has = refl
@@ -45,11 +30,6 @@ module _ (types : List TypeForm) where
 module _ (program : Program) (well : IsWellFormed (program_form program)) where
   abbrev p : ProgramForm
   p = program_form program
-
-  -- Where operations may be frugal, none is allocated, or collections are created in order.
-  parts_where : may_be_frugal p ≡ true → (allocates_no_parts p ≡ true) ⊎ (collections_in_order p ≡ true)
-  parts_where may =
-      or_cases (allocates_no_parts p) (collections_in_order p) (apart (allocates_no_parts p || collections_in_order p) (operations_stand_apart p) may).0
 
   -- An object is that of a variable or a component, or it has controlled parts, where an operation is called for one of these.
   pub operable_is_not_bare : (access of part : ℕ) → IsOperable p.types access of part → has_bare_objects p.types access ≡ false
@@ -67,11 +47,3 @@ module _ (program : Program) (well : IsWellFormed (program_form program)) where
   pub frugal_frees_bare : (number : ℕ) (b : BodyForm) → slice_get p.bodies number ≡ Some b → is_thrifty_body (simple_allowance p.types) false b ≡ true → (t : ℕ)
       → CoveredIn (implicit_of p) (seen_in (Some number) p) t → has_bare_objects p.types t ≡ true
   frugal_frees_bare number b there simple t covered = covered_bare p well number b there simple t covered
-
-  -- Nothing has controlled parts that is allocated, where operations may be frugal and collections are not created in order.
-  pub allocated_is_bare : may_be_frugal p ≡ true → collections_in_order p ≡ false → (access : ℕ) → is_access p.types access ≡ true → has_bare_objects p.types access ≡ true
-  allocated_is_bare may none access is = by (parts_where may)
-    where
-      by : (allocates_no_parts p ≡ true) ⊎ (collections_in_order p ≡ true) → has_bare_objects p.types access ≡ true
-      by (inl bare) = bare_access p.types bare access is
-      by (inr parts) = absurd (cc (none, parts))

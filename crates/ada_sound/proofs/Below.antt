@@ -1,4 +1,4 @@
--- What callers rely on lies in masters that were entered before their calls: none of it goes while a body is left.
+-- What callers rely on lies in masters that were entered before their calls, if its words are out: none of it goes while a body is left.
 
 use Rattle.std.proofs.Common.{◌≡◌, ℕ, zero, suc, ◌≤◌, Bool, true, false, List, [], ◌∷◌, ◌++◌, length, refl, sym, ◌∙◌, arith, length-append, ◌⊎◌, inl, inr}
 use Rattle.std.specs.Prelude.{Option, Some, None, ◌==◌}
@@ -18,11 +18,11 @@ use Rattle.ada_scopes.specs.Scopes.{is_number_of}
 use Rattle.ada_sound.proofs.Fits.{Outer, outer_hold, outer_value, IsRelied, IsReferred, referred_either}
 use Rattle.ada_sound.proofs.Items.{Counted, height_is}
 use Rattle.ada_sound.proofs.Leavings.{NamedBelow}
-use Rattle.ada_sound.proofs.Invariant.{Known, Control, Caller, Rooms, Roomed, RunsOn, Parting, AllWait, waits_roomed, LieBelow, below, below_callers, outers, held_first, outer_in, referenced_in, under_in}
+use Rattle.ada_sound.proofs.Invariant.{Known, Control, Caller, Rooms, Roomed, RunsOn, Parting, AllWait, waits_roomed, OneAwaits, LiesBelow, LieBelow, below, below_callers, outers, held_first, outer_in, referenced_in, under_in}
 use Rattle.ada_sound.proofs.Stored.{IsUnder}
 
 -- Masters with rooms stand above those of the callers.
-roomed_high : (below ms : List Master) (rooms : Rooms) → Roomed below ms rooms → height below ≤ height ms
+pub roomed_high : (below ms : List Master) (rooms : Rooms) → Roomed below ms rooms → height below ≤ height ms
 roomed_high below ms [] r = rw r (omega arith)
 roomed_high below [] (gone ∷ rooms) r = absurd r
 roomed_high below (m ∷ ms) (gone ∷ rooms) r = let high = roomed_high below ms rooms r.1 in omega (arith, high)
@@ -36,57 +36,71 @@ inner_high (i ∷ is) js n c e = go (i.number == n) refl (λ among. inner_high i
     go true same others = let at = eqb-true i.number n same in let count = c.0 in omega (arith, at, count, length-append is js)
     go false same others = others (rw same at e)
 
--- What is held comes first: it lies low, and so do the others.
-held_low : (heap : List Object) (held : Option Outer) (others : List Outer) (count : ℕ) → ((x : ℕ) (o : Id) → IsRelied (outer_hold held x) → outer_value held x ≡ Names o → (object : Object) × (object_at heap o ≡ Some object) × (suc object.cell.home.item ≤ count))
-    → ((d x : ℕ) (o : Id) (object : Object) → IsRelied (outer_hold (slice_get others d) x) → outer_value (slice_get others d) x ≡ Names o → object_at heap o ≡ Some object → suc object.cell.home.item ≤ count)
-    → (d x : ℕ) (o : Id) (object : Object) → IsRelied (outer_hold (slice_get (held_first held others) d) x) → outer_value (slice_get (held_first held others) d) x ≡ Names o → object_at heap o ≡ Some object → suc object.cell.home.item ≤ count
-held_low heap None others count low before d x o object relied names found = before d x o object relied names found
-held_low heap (Some held) others count low before zero x o object relied names found =
-    let lies = low x o relied names in
+-- What lies below a number of items has its home there, where its words are out, or nothing is so around.
+is_low : (heap : List Object) (items : ℕ) (Around : Type 0) (o : Id) (object : Object) → LiesBelow heap items Around o → object_at heap o ≡ Some object → (object.out ≡ false → Around → ⊥) → suc object.cell.home.item ≤ items
+is_low heap items Around o object lies found strict =
     let same : lies.0 ≡ object = some_same lies.0 object (sym lies.1 ∙ found) in
-    rw (← same) lies.2
+    by (rw same at lies.2)
   where
     some_same : (x y : Object) → Some x ≡ Some y → x ≡ y
     some_same x y e = cc e
-held_low heap (Some held) others count low before (suc d) x o object relied names found = before d x o object relied names found
 
--- What a caller relies on lies below the masters of the running body.
-low_at : (heap : List Object) (implicit : Implicit) (body : ProgramForm) (callers : List Caller) → AllWait implicit body callers → LieBelow heap callers → (d x : ℕ) (o : Id) (object : Object) → IsRelied (outer_hold (slice_get (outer_in callers) d) x) → outer_value (slice_get (outer_in callers) d) x ≡ Names o → object_at heap o ≡ Some object → suc object.cell.home.item ≤ height (below_callers callers)
-low_at heap implicit body [] waits low d x o object relied names found = absurd relied
-low_at heap implicit body (w ∷ ws) waits low zero x o object relied names found =
-    let lies = low.0 x o relied names in
-    let same : lies.0 ≡ object = some_same lies.0 object (sym lies.1 ∙ found) in
-    rw (← same) lies.2
-  where
-    some_same : (x y : Object) → Some x ≡ Some y → x ≡ y
-    some_same x y e = cc e
-low_at heap implicit body (w ∷ ws) waits low (suc d) x o object relied names found =
-    held_low heap w.held (outer_in ws) (height w.masters) low.4
-    (λ e y p q relies is there.
-    let lower = low_at heap w.implicit w.program ws waits.1 low.3 e y p q relies is there in
+    by : (suc object.cell.home.item ≤ items) ⊎ ((object.out ≡ false) × Around) → suc object.cell.home.item ≤ items
+    by (inl low) = low
+    by (inr (back, around)) = absurd (strict back around)
+
+-- What is held comes first: it lies low, and so do the others.
+held_low : (heap : List Object) (held : Option Outer) (others : List Outer) (count : ℕ) (Around : Type 0) → ((x : ℕ) (o : Id) → IsRelied (outer_hold held x) → outer_value held x ≡ Names o → LiesBelow heap count Around o)
+    → ((d x : ℕ) (o : Id) (object : Object) → IsRelied (outer_hold (slice_get others d) x) → outer_value (slice_get others d) x ≡ Names o → object_at heap o ≡ Some object → (object.out ≡ false → Around → ⊥) → suc object.cell.home.item ≤ count)
+    → (d x : ℕ) (o : Id) (object : Object) → IsRelied (outer_hold (slice_get (held_first held others) d) x) → outer_value (slice_get (held_first held others) d) x ≡ Names o → object_at heap o ≡ Some object → (object.out ≡ false → Around → ⊥) → suc object.cell.home.item ≤ count
+held_low heap None others count Around low before d x o object relied names found strict = before d x o object relied names found strict
+held_low heap (Some held) others count Around low before zero x o object relied names found strict = is_low heap count Around o object (low x o relied names) found strict
+held_low heap (Some held) others count Around low before (suc d) x o object relied names found strict = before d x o object relied names found strict
+
+-- What a caller relies on lies below the masters of the running body, where its words are out, or no caller waits for an operation.
+low_so : (heap : List Object) (implicit : Implicit) (body : ProgramForm) (callers : List Caller) → AllWait implicit body callers → LieBelow heap callers → (d x : ℕ) (o : Id) (object : Object) → IsRelied (outer_hold (slice_get (outer_in callers) d) x) → outer_value (slice_get (outer_in callers) d) x ≡ Names o → object_at heap o ≡ Some object → (object.out ≡ false → OneAwaits callers → ⊥) → suc object.cell.home.item ≤ height (below_callers callers)
+low_so heap implicit body [] waits low d x o object relied names found strict = absurd relied
+low_so heap implicit body (w ∷ ws) waits low zero x o object relied names found strict =
+    is_low heap (height w.masters) (OneAwaits ws) o object (low.0 x o relied names) found (λ back around. strict back (inr around))
+low_so heap implicit body (w ∷ ws) waits low (suc d) x o object relied names found strict =
+    held_low heap w.held (outer_in ws) (height w.masters) (OneAwaits ws) low.4
+    (λ e y p q relies is there strictly.
+    let lower = low_so heap w.implicit w.program ws waits.1 low.3 e y p q relies is there strictly in
     let high = roomed_high (below_callers ws) w.masters w.rooms (waits_roomed waits.0) in
-    omega (arith, lower, high)) d x o object relied names found
+    omega (arith, lower, high)) d x o object relied names found (λ back around. strict back (inr around))
 
 -- So does what its call refers to.
-lower_or_here : (heap : List Object) (w : Caller) (ws : List Caller) → ((o : Id) (t : ℕ) → IsReferred w.referenced o t → (object : Object) × (object_at heap o ≡ Some object) × (suc object.cell.home.item ≤ height w.masters)) → (o : Id) (t : ℕ) (object : Object) → object_at heap o ≡ Some object → Roomed (below_callers ws) w.masters w.rooms → (IsReferred (referenced_in ws) o t → suc object.cell.home.item ≤ height (below_callers ws)) → IsReferred w.referenced o t ⊎ IsReferred (referenced_in ws) o t → suc object.cell.home.item ≤ height w.masters
-lower_or_here heap w ws low o t object found roomed before (inl here) =
-    let lies = low o t here in
-    let same : lies.0 ≡ object = some_same lies.0 object (sym lies.1 ∙ found) in
-    rw (← same) lies.2
-  where
-    some_same : (x y : Object) → Some x ≡ Some y → x ≡ y
-    some_same x y e = cc e
-lower_or_here heap w ws low o t object found roomed before (inr there) =
+lower_or_here : (heap : List Object) (w : Caller) (ws : List Caller) → ((o : Id) (t : ℕ) → IsReferred w.referenced o t → LiesBelow heap (height w.masters) (OneAwaits ws) o) → (o : Id) (t : ℕ) (object : Object) → object_at heap o ≡ Some object → (object.out ≡ false → OneAwaits ws → ⊥) → Roomed (below_callers ws) w.masters w.rooms → (IsReferred (referenced_in ws) o t → suc object.cell.home.item ≤ height (below_callers ws)) → IsReferred w.referenced o t ⊎ IsReferred (referenced_in ws) o t → suc object.cell.home.item ≤ height w.masters
+lower_or_here heap w ws low o t object found strict roomed before (inl here) = is_low heap (height w.masters) (OneAwaits ws) o object (low o t here) found strict
+lower_or_here heap w ws low o t object found strict roomed before (inr there) =
     let lower = before there in
     let high = roomed_high (below_callers ws) w.masters w.rooms roomed in
     omega (arith, lower, high)
 
-referred_low : (heap : List Object) (implicit : Implicit) (body : ProgramForm) (callers : List Caller) → AllWait implicit body callers → LieBelow heap callers → (o : Id) (t : ℕ) (object : Object) → IsReferred (referenced_in callers) o t → object_at heap o ≡ Some object → suc object.cell.home.item ≤ height (below_callers callers)
-referred_low heap implicit body [] waits low o t object is found = absurd is
-referred_low heap implicit body (w ∷ ws) waits low o t object is found =
-    lower_or_here heap w ws low.1 o t object found (waits_roomed waits.0) (λ before. referred_low heap w.implicit w.program ws waits.1 low.3 o t object before found) (referred_either w.referenced (referenced_in ws) o t is)
+referred_so : (heap : List Object) (implicit : Implicit) (body : ProgramForm) (callers : List Caller) → AllWait implicit body callers → LieBelow heap callers → (o : Id) (t : ℕ) (object : Object) → IsReferred (referenced_in callers) o t → object_at heap o ≡ Some object → (object.out ≡ false → OneAwaits callers → ⊥) → suc object.cell.home.item ≤ height (below_callers callers)
+referred_so heap implicit body [] waits low o t object is found strict = absurd is
+referred_so heap implicit body (w ∷ ws) waits low o t object is found strict =
+    lower_or_here heap w ws low.1 o t object found (λ back around. strict back (inr around)) (waits_roomed waits.0)
+    (λ before. referred_so heap w.implicit w.program ws waits.1 low.3 o t object before found (λ back around. strict back (inr around))) (referred_either w.referenced (referenced_in ws) o t is)
 
--- So does what is under way in it.
+-- Where its words are out.
+is_strict : (object : Object) (Around : Type 0) → object.out ≡ true → object.out ≡ false → Around → ⊥
+is_strict object Around out back around = cc (out, back)
+
+low_at : (heap : List Object) (implicit : Implicit) (body : ProgramForm) (callers : List Caller) → AllWait implicit body callers → LieBelow heap callers → (d x : ℕ) (o : Id) (object : Object) → IsRelied (outer_hold (slice_get (outer_in callers) d) x) → outer_value (slice_get (outer_in callers) d) x ≡ Names o → object_at heap o ≡ Some object → object.out ≡ true → suc object.cell.home.item ≤ height (below_callers callers)
+low_at heap implicit body callers waits low d x o object relied names found out = low_so heap implicit body callers waits low d x o object relied names found (is_strict object (OneAwaits callers) out)
+
+referred_low : (heap : List Object) (implicit : Implicit) (body : ProgramForm) (callers : List Caller) → AllWait implicit body callers → LieBelow heap callers → (o : Id) (t : ℕ) (object : Object) → IsReferred (referenced_in callers) o t → object_at heap o ≡ Some object → object.out ≡ true → suc object.cell.home.item ≤ height (below_callers callers)
+referred_low heap implicit body callers waits low o t object is found out = referred_so heap implicit body callers waits low o t object is found (is_strict object (OneAwaits callers) out)
+
+-- Where no caller waits for an operation.
+pub low_strict : (heap : List Object) (implicit : Implicit) (body : ProgramForm) (callers : List Caller) → AllWait implicit body callers → LieBelow heap callers → (OneAwaits callers → ⊥) → (d x : ℕ) (o : Id) (object : Object) → IsRelied (outer_hold (slice_get (outer_in callers) d) x) → outer_value (slice_get (outer_in callers) d) x ≡ Names o → object_at heap o ≡ Some object → suc object.cell.home.item ≤ height (below_callers callers)
+low_strict heap implicit body callers waits low none d x o object relied names found = low_so heap implicit body callers waits low d x o object relied names found (λ back awaits. none awaits)
+
+pub referred_strict : (heap : List Object) (implicit : Implicit) (body : ProgramForm) (callers : List Caller) → AllWait implicit body callers → LieBelow heap callers → (OneAwaits callers → ⊥) → (o : Id) (t : ℕ) (object : Object) → IsReferred (referenced_in callers) o t → object_at heap o ≡ Some object → suc object.cell.home.item ≤ height (below_callers callers)
+referred_strict heap implicit body callers waits low none o t object is found = referred_so heap implicit body callers waits low o t object is found (λ back awaits. none awaits)
+
+-- What is under way in a caller lies there, too.
 pub either_one : (us vs : List Id) (o : Id) → IsUnder (us ++ vs) o → IsUnder us o ⊎ IsUnder vs o
 either_one [] vs o is = inr is
 either_one (u ∷ us) vs o (inl same) = inl (inl same)
@@ -110,25 +124,25 @@ under_low heap implicit body [] waits low o object is found = absurd is
 under_low heap implicit body (w ∷ ws) waits low o object is found =
     under_or_here heap w ws low.2 o object found (waits_roomed waits.0) (λ before. under_low heap w.implicit w.program ws waits.1 low.3 o object before found) (either_one w.under (under_in ws) o is)
 
--- So none of it is an item of a master that a body is to leave.
+-- So none of it, if its words are out, is an item of a master that a body is to leave.
 module _ (known : Known) (heap : List Object) (waits : AllWait known.implicit known.program known.callers) (low : LieBelow heap known.callers) where
   below_by : (mode : Mode) (k : Control) (rooms : Rooms) (holds : Holds) (ms : List Master) → Counted (items_of ms) → Roomed (below known) ms rooms → RunsOn known (Leaves mode ∷ k) rooms holds → NamedBelow (outers known) heap ms
   below_by mode k [] holds ms counted r runs = absurd runs
   below_by mode k (gone ∷ rooms) holds [] counted r runs = absurd r
   below_by mode k (gone ∷ rooms) holds (m ∷ ms) counted r runs = (
-    (λ d x o object relied names found inner.
-        let lower = low_at heap known.implicit known.program known.callers waits low d x o object relied names found in
+    (λ d x o object relied names found out inner.
+        let lower = low_at heap known.implicit known.program known.callers waits low d x o object relied names found out in
         let high = roomed_high (below known) ms rooms r.1 in
         let above = inner_high m.items (items_of ms) object.cell.home.item counted inner in
         let count = height_is ms in
         omega (arith, lower, high, above, count)),
-    (λ o t object refers found inner.
-        let lower = referred_low heap known.implicit known.program known.callers waits low o t object refers found in
+    (λ o t object refers found out inner.
+        let lower = referred_low heap known.implicit known.program known.callers waits low o t object refers found out in
         let high = roomed_high (below known) ms rooms r.1 in
         let above = inner_high m.items (items_of ms) object.cell.home.item counted inner in
         let count = height_is ms in
         omega (arith, lower, high, above, count)),
-    (λ o object is found inner.
+    (λ o object is found out inner.
         let lower = under_low heap known.implicit known.program known.callers waits low o object is found in
         let high = roomed_high (below known) ms rooms r.1 in
         let above = inner_high m.items (items_of ms) object.cell.home.item counted inner in

@@ -14,13 +14,13 @@ use Rattle.ada_meaning.specs.State.{Item, Master}
 use Rattle.ada_meaning.specs.Named.{Object, State, object_at, changed}
 use Rattle.ada_meaning.specs.Run.{Event}
 use Rattle.ada_meaning.specs.Law.{GivesBackOf, LeavesHome, leaving_by}
-use Rattle.ada_owners.specs.Places.{access_at}
+use Rattle.ada_owners.specs.Places.{access_at, is_there}
 use Rattle.ada_owners.proofs.Changes.{access_set}
 use Rattle.ada_tracked.specs.Frames.{View, watched, blank_object, blanked}
 use Rattle.ada_sound.proofs.Alters.{BackIn, StaysItself, Alters}
 use Rattle.ada_sound.proofs.Invariant.{Says, EndsWell}
 use Rattle.ada_sound.proofs.Objects.{set_get, set_here, set_other}
-use Rattle.ada_sound.proofs.Stored.{Sane, Stored}
+use Rattle.ada_sound.proofs.Stored.{AllOut, Sane, Stored}
 use Rattle.ada_sound.proofs.Values.{same_or_not}
 
 -- Two objects that are alike but for what their components hold.
@@ -105,12 +105,18 @@ back_unblanked w h o (y, found, back) = let a = unblanked w h o y found in (a.ob
 -- What is so of an object is so of one that is like it.
 sane_alike : {under : List Id} {items : List Item} {o : Id} {x y : Object} → Alike x y → Sane under items o x → Sane under items o y
 sane_alike {under} {items} {o} {x} {y} a s = record {
-  back_gone = λ back. a.stage ∙ s.back_gone (sym a.out ∙ back);
+  back_unlisted = λ back. a.listed ∙ s.back_unlisted (sym a.out ∙ back);
   listed_exists = λ listed. a.stage ∙ s.listed_exists (sym a.listed ∙ listed);
   there_exists = λ there. a.stage ∙ s.there_exists (rw a.stage at there);
   housed = λ out. rw (a.home, a.access) (s.housed (sym a.out ∙ out));
   out_listed = λ out. elim (s.out_listed (sym a.out ∙ out)) [ inl listed ↦ inl (a.listed ∙ listed) | inr under ↦ inr under ];
 }
+
+-- Of what is there the words are out there, if they are here.
+pub out_blanked : (w : View) (h : List Object) → AllOut h → AllOut (blanked w h)
+out_blanked w h out o y found there =
+    let a = unblanked w h o y found in
+    sym a.alike.out ∙ out o a.object a.found (ap is_there a.alike.stage ∙ there)
 
 pub stored_unblanked : {under : List Id} {masters : List Master} (w : View) (h : List Object) → Stored under (blanked w h) masters → Stored under h masters
 stored_unblanked w h s = record {
@@ -168,7 +174,7 @@ says_unblanked implicit p w h (Back object access number pool subpool cause) aft
     }
 says_unblanked implicit p w h (Followed object) after s is says =
     let a = unblanked w h says.id says.object says.found in
-    record { id = says.id; object = a.object; is = says.is; found = a.found; out = a.alike.out ∙ says.out }
+    record { id = says.id; object = a.object; is = says.is; found = a.found; there = ap is_there a.alike.stage ∙ says.there }
 says_unblanked implicit p w h (Left master) after s is says = tt
 says_unblanked implicit p w h (Line line) after s is says = tt
 says_unblanked implicit p w h Quiet after s is says = tt

@@ -1,6 +1,6 @@
 -- Bodies of one program that have called one another: what is known of each.
 
-use Rattle.std.proofs.Common.{◌≡◌, ℕ, List, [], ◌∷◌}
+use Rattle.std.proofs.Common.{◌≡◌, ℕ, List, [], ◌∷◌, refl, inl, inr}
 use Rattle.std.specs.Prelude.{Option}
 use Rattle.ada_program.specs.declared.program.Program.{Program}
 use Rattle.ada_program.specs.Form.{ActualForm}
@@ -17,7 +17,7 @@ use Rattle.ada_sound.proofs.Ahead.{ahead_in}
 use Rattle.ada_sound.proofs.Touched.{touches_in}
 use Rattle.ada_sound.proofs.Fits.{Outer, Reference}
 use Rattle.ada_sound.proofs.Bodies.{IsBody}
-use Rattle.ada_sound.proofs.Invariant.{Control, Rooms, Caller, Known, Standing}
+use Rattle.ada_sound.proofs.Invariant.{Control, Rooms, Caller, IsAwaited, Known, OneAwaits, Standing, under_in}
 use Rattle.ada_meaning.specs.declared.state.Id.{Id}
 
 -- A suspended activation: of which body it is, the actual parameters of its call, their values, what refers to the components that get something back, the
@@ -38,6 +38,15 @@ pub record Suspension : Type 0 where
   pub rooms : Rooms
   pub places : List Value
   pub before : Holds
+
+-- An activation waits for a call, and nothing is under way in it.
+abbrev pub IsCall : Suspension → Type 0
+IsCall g = (IsAwaited g.control → ⊥) × (g.under ≡ [])
+
+-- So it is with each of these.
+abbrev pub AreCalls : List Suspension → Type 0
+AreCalls [] = Unit {0}
+AreCalls (g ∷ gs) = IsCall g × AreCalls gs
 
 -- What is left to do behind a body, by the activation that called it.
 abbrev pub rest_of : List Suspension → Control
@@ -73,6 +82,16 @@ caller_of program g gs = record {
 abbrev pub callers_of : Program → List Suspension → List Caller
 callers_of program [] = []
 callers_of program (g ∷ gs) = caller_of program g gs ∷ callers_of program gs
+
+-- Where activations wait for calls, nothing is under way in them, and none of them waits for an operation.
+pub none_under : (program : Program) (gs : List Suspension) → AreCalls gs → under_in (callers_of program gs) ≡ []
+none_under program [] are = refl
+none_under program (g ∷ gs) are = rw (are.0.1, none_under program gs are.1) refl
+
+pub none_awaits : (program : Program) (gs : List Suspension) → AreCalls gs → OneAwaits (callers_of program gs) → ⊥
+none_awaits program [] are awaits = awaits
+none_awaits program (g ∷ gs) are (inl here) = are.0.0 here
+none_awaits program (g ∷ gs) are (inr later) = none_awaits program gs are.1 later
 
 -- What is known of a body at work, that these have called.
 abbrev pub known_in : Program → (procedure : Option ℕ) → List Suspension → Known

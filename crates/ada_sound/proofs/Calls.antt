@@ -1,6 +1,6 @@
 -- The body of a procedure begins: what its caller knows waits for the end of the call.
 
-use Rattle.std.proofs.Common.{◌≡◌, ◌≢◌, ℕ, suc, ◌≤◌, Bool, true, false, List, [], ◌∷◌, ◌++◌, length, take, drop, reverse, refl, sym, ap, ◌∙◌, inl, inr, subst, arith}
+use Rattle.std.proofs.Common.{◌≡◌, ◌≢◌, ℕ, suc, ◌≤◌, Bool, true, false, List, [], ◌∷◌, ◌++◌, length, take, drop, reverse, refl, sym, ap, ◌∙◌, ◌⊎◌, inl, inr, subst, arith}
 use Rattle.std.specs.Prelude.{Option, Some, None}
 use Rattle.std.specs.List.{slice_get}
 use Rattle.std.proofs.lemmas.Bool.{and_parts}
@@ -25,13 +25,13 @@ use Rattle.ada_meaning.specs.Step as steps
 use Rattle.ada_meaning.specs.Step.{operand_count, given_values, references_in, blanks, given_places}
 use Rattle.ada_meaning.specs.Law.{items_of}
 use Rattle.ada_meaning.specs.Named.{Object, State, named, object_at}
-use Rattle.ada_owners.specs.Places.{is_there, variable, access_at}
+use Rattle.ada_owners.specs.Places.{variable, access_at}
 use Rattle.ada_owners.specs.Reliance.{Says, IsOf, Owns}
 use Rattle.ada_owners.specs.Keeping.{IsThere}
 use Rattle.ada_sound.proofs.Fits.{none_spared, Fit, Reference, IsOwnedOutside, IsReferred, referred_first, referred_either, IsPlace, ArePlain, plain_by, plain_object, IsSaid, IsRelied, is_object, place_at, weaker_fit, there_by}
 use Rattle.ada_sound.proofs.Orderings.{AsGood, called_good}
 use Rattle.ada_sound.proofs.Items.{item_below, height_is}
-use Rattle.ada_sound.proofs.Stored.{Stored, Sane, stored_entered}
+use Rattle.ada_sound.proofs.Stored.{HasDeparted, Stored, stored_entered}
 use Rattle.ada_sound.proofs.Activations.{HandedOver, called_fit}
 use Rattle.ada_sound.proofs.Begins.{path_names, record_referred}
 use Rattle.ada_sound.proofs.Walks.{whole_plain, plain_whole, walk_plain}
@@ -41,22 +41,26 @@ use Rattle.ada_sound.proofs.GivenBack.{gives_some, get_less}
 use Rattle.ada_sound.proofs.Outcomes.{to_here}
 use Rattle.ada_sound.proofs.Ready.{stays}
 use Rattle.ada_sound.proofs.Bodies.{effect_at, callee_get, callee_sees}
-use Rattle.ada_sound.proofs.Invariant.{CoveredIn, begun, along, Known, Control, Rooms, RunsOn, Working, CallsOn, ArePassed, handed_at, Hands, Waits, body_among, effect_in, kept_in, left_in, outers, outer_of}
+use Rattle.ada_sound.proofs.Invariant.{CoveredIn, begun, along, Known, Control, Rooms, RunsOn, Working, CallsOn, ArePassed, handed_at, Hands, Waits, OneAwaits, LiesBelow, body_among, effect_in, kept_in, left_in, outers, outer_of}
 use Rattle.ada_sound.proofs.Callers.{Suspension, caller_of, callers_of, known_in, Stands}
 use Rattle.ada_sound.proofs.Returns.{Crosses, CrossesTo, crosses_to}
 
--- What a variable is relied on to name is there, and its home is an item of a master that is entered.
-pub home_low : {under : List Id} (heap : List Object) (masters : List Master) (o : Id) → Stored under heap masters → IsThere heap o → (object : Object) × (object_at heap o ≡ Some object) × (suc object.cell.home.item ≤ height masters)
-home_low {under} heap masters o stored (object, found, there) =
-    let sane = stored.sane o object found in
-    let housed = sane.housed (out object sane object.out refl there) in
-    let below = item_below object.cell.home.item object.cell.access object.cell.home.pool (items_of masters) stored.counted housed in
+-- What is there and has its words out has its home in an item of a master that is entered.
+pub home_low : {under : List Id} (heap : List Object) (masters : List Master) (o : Id) → Stored under heap masters → (x : Object) → object_at heap o ≡ Some x → x.out ≡ true → suc x.cell.home.item ≤ height masters
+home_low heap masters o stored x found out =
+    let housed = (stored.sane o x found).housed out in
+    let below = item_below x.cell.home.item x.cell.access x.cell.home.pool (items_of masters) stored.counted housed in
     let high = height_is masters in
-    (object, found, omega (arith, below, high))
+    omega (arith, below, high)
+
+-- What a variable is relied on to name is there: it lies so, if what has departed does, or something is so around.
+pub there_low : {under : List Id} (heap : List Object) (masters : List Master) (Around : Type 0) (o : Id) → Stored under heap masters → IsThere heap o → ((x : Object) → HasDeparted heap o x → (suc x.cell.home.item ≤ height masters) ⊎ Around) → LiesBelow heap (height masters) Around o
+there_low heap masters Around o stored (x, found, there) departed = by x.out refl
   where
-    out : (object : Object) → Sane under (items_of masters) o object → (b : Bool) → object.out ≡ b → is_there object.stage ≡ true → object.out ≡ true
-    out object sane true e there = e
-    out object sane false e there = let gone = sane.back_gone e in let exists = sane.there_exists there in absurd (cc (gone, exists))
+    by : (out : Bool) → x.out ≡ out → LiesBelow heap (height masters) Around o
+    by true out = (x, found, inl (home_low heap masters o stored x found out))
+    by false back =
+        (x, found, elim (departed x (record { found = found; there = there; back = back })) [ inl low ↦ inl low | inr around ↦ inr (back, around) ])
 
 pub relied_says : (heap : List Object) (h : Hold) (kind : Option ℕ) (o : Id) → IsRelied h → Says (access_at heap) h kind o → IsOf (access_at heap) kind o
 relied_says heap hold.Null kind o relied s = absurd relied
@@ -301,43 +305,48 @@ module _ (program : Program) (number : ℕ) (b : BodyForm) (given : List ActualF
                 let same : h.x ≡ x = cc (h.is) in
                 sym (stands_at caller.program.types caller.program.variables frees s.heap a.places w.holds (drop (length values) (blanks named b.variables)) given values order i x is) ∙ (value_of h ∙ ap (λ (y : ℕ). place_at a.places y) same)
 
-        caller_low : (x : ℕ) (o : Id) → IsRelied (hold_at (left_unkept [] given waiting.before) x) → place_at a.places x ≡ Names o → (object : Object) × (object_at s.heap o ≡ Some object) × (suc object.cell.home.item ≤ height s.masters)
-        caller_low x o relied names =
-            let waits = weaker_fit (left_unkept [] given waiting.before) waits_by caller_fit in
-            home_low s.heap s.masters o w.stored (there_by s.heap _ o (relied_says s.heap (hold_at (left_unkept [] given waiting.before) x) _ o relied (waits.owners.fit.relied (variable x) o names)))
+        -- What has departed is there where an operation runs around the caller.
+        module _ (departed : (o : Id) (x : Object) → HasDeparted s.heap o x → OneAwaits (callers_of program gs)) where
+          lies_low : (o : Id) → IsThere s.heap o → LiesBelow s.heap (height s.masters) (OneAwaits (callers_of program gs)) o
+          lies_low o there = there_low s.heap s.masters (OneAwaits (callers_of program gs)) o w.stored there (λ x gone. inr (departed o x gone))
 
-        -- So it is of what the call refers to.
-        referred_low : (o : Id) (t : ℕ) → IsReferred referenced o t → (object : Object) × (object_at s.heap o ≡ Some object) × (suc object.cell.home.item ≤ height s.masters)
-        referred_low o t is = home_low s.heap s.masters o w.stored (there_by s.heap (Some t) o (referred_there o t is))
+          caller_low : (x : ℕ) (o : Id) → IsRelied (hold_at (left_unkept [] given waiting.before) x) → place_at a.places x ≡ Names o → LiesBelow s.heap (height s.masters) (OneAwaits (callers_of program gs)) o
+          caller_low x o relied names =
+              let waits = weaker_fit (left_unkept [] given waiting.before) waits_by caller_fit in
+              lies_low o (there_by s.heap _ o (relied_says s.heap (hold_at (left_unkept [] given waiting.before) x) _ o relied (waits.owners.fit.relied (variable x) o names)))
 
-        -- The body begins, if it runs from where its formal parameters are relied on to be what the call gave them.
-        pub calls_to : RunsOn callee (Elaborates b.declarations b.statements b.handlers ∷ Returns given references ∷ k) (gone_with b.declarations ∷ []) (first_holds b.formals b.variables) → CrossesTo program (waiting ∷ gs) s.heap Quiet (steps.begun named number b given arrived (record s { activations = a ∷ rest; control = k; mode = Running }))
-        calls_to runs = record {
-          stepped = stays callee Quiet (steps.begun named number b given arrived (record s { activations = a ∷ rest; control = k; mode = Running })) (
-            tt,
-            record {
-              rooms = gone_with b.declarations ∷ [];
-              holds = first_holds b.formals b.variables;
-              stored = stored_entered s.next w.stored;
-              roomed = (tt, refl);
-              fit = callee_fit;
-              rest = runs;
-            },
-          ) tt;
-          stands = record {
-            body = (b, callee_get (program_form program) a.procedure number b stands.body w.rest.0);
-            behind = (given, references, k, refl);
-            bodies = (refl, stands.body, stands.behind, stands.bodies);
-            standing = record {
-              suspended = (refl, stands.standing.suspended);
-              waiting = (inl caller_waits, stands.standing.waiting);
-              low = (caller_low, referred_low, (λ o none. absurd none), stands.standing.low, (λ x o none names. absurd none));
+          -- So it is of what the call refers to.
+          referred_low : (o : Id) (t : ℕ) → IsReferred referenced o t → LiesBelow s.heap (height s.masters) (OneAwaits (callers_of program gs)) o
+          referred_low o t is = lies_low o (there_by s.heap (Some t) o (referred_there o t is))
+
+          -- The body begins, if it runs from where its formal parameters are relied on to be what the call gave them.
+          pub calls_to : RunsOn callee (Elaborates b.declarations b.statements b.handlers ∷ Returns given references ∷ k) (gone_with b.declarations ∷ []) (first_holds b.formals b.variables) → CrossesTo program (waiting ∷ gs) s.heap Quiet (steps.begun named number b given arrived (record s { activations = a ∷ rest; control = k; mode = Running }))
+          calls_to runs = record {
+            stepped = stays callee Quiet (steps.begun named number b given arrived (record s { activations = a ∷ rest; control = k; mode = Running })) (
+              tt,
+              record {
+                rooms = gone_with b.declarations ∷ [];
+                holds = first_holds b.formals b.variables;
+                stored = stored_entered s.next w.stored;
+                roomed = (tt, refl);
+                fit = callee_fit;
+                rest = runs;
+              },
+            ) tt;
+            stands = record {
+              body = (b, callee_get (program_form program) a.procedure number b stands.body w.rest.0);
+              behind = (given, references, k, refl);
+              bodies = (refl, stands.body, stands.behind, stands.bodies);
+              standing = record {
+                suspended = (refl, stands.standing.suspended);
+                waiting = (inl caller_waits, stands.standing.waiting);
+                low = (caller_low, referred_low, (λ o none. absurd none), stands.standing.low, (λ x o none names. absurd none));
+              };
             };
-          };
-        }
+          }
 
-        pub calls_fine : RunsOn callee (Elaborates b.declarations b.statements b.handlers ∷ Returns given references ∷ k) (gone_with b.declarations ∷ []) (first_holds b.formals b.variables) → Crosses program s.heap Quiet (steps.begun named number b given arrived (record s { activations = a ∷ rest; control = k; mode = Running }))
-        calls_fine runs = crosses_to (calls_to runs)
+          pub calls_fine : RunsOn callee (Elaborates b.declarations b.statements b.handlers ∷ Returns given references ∷ k) (gone_with b.declarations ∷ []) (first_holds b.formals b.variables) → Crosses program s.heap Quiet (steps.begun named number b given arrived (record s { activations = a ∷ rest; control = k; mode = Running }))
+          calls_fine runs = crosses_to (calls_to runs)
 
     module _ (stands : Stands program gs (record s { activations = a ∷ rest })) where
       -- What may be freed by the body may be freed by the call.

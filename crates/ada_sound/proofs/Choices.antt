@@ -13,14 +13,16 @@ use Rattle.ada_deeds.specs.declared.deed.Deed.{Deed}
 use Rattle.ada_deeds.specs.declared.deed.Deed.TheVariants.{Raises}
 use Rattle.ada_deeds.specs.declared.deed.Operation.TheVariants.{Adjust, Finalize}
 use Rattle.ada_deeds.proofs.Within.{counts_are_enough}
+use Rattle.ada_operations.specs.Created.{collections_of, is_created_before}
 use Rattle.ada_operations.proofs.Propagating.{none_comes_out, kept_by}
+use Rattle.ada_operations.proofs.Spared.{reach_older, older_by}
 use Rattle.ada_program.specs.declared.program.Exception.{Exception}
 use Rattle.ada_program.specs.declared.program.TypeNo.{TypeNo}
 use Rattle.ada_text.specs.declared.spot.Spot.{Spot}
 use Rattle.ada_program.specs.declared.program.Program.{Program}
 use Rattle.ada_program.specs.Form.{StmtsForm, HandlersForm, declaration_forms, stmt_forms, handler_forms}
 use Rattle.ada_program.specs.ProgramForm.{BodyForm, ProgramForm, main_body, body_forms, program_form}
-use Rattle.ada_program.specs.WellFormed.{type_fits, variable_fits, creations, creates_from, collections_first, collection_fits, has_collections, pools_fit, initial_fits, stmts_fit, handlers_fit, bodies_fit, all_creations, callable_in, components_lie, have_operations, IsWellFormed}
+use Rattle.ada_program.specs.WellFormed.{type_fits, variable_fits, creations, creates_from, collections_first, collection_fits, has_collections, is_access, pools_fit, initial_fits, stmts_fit, handlers_fit, bodies_fit, all_creations, callable_in, components_lie, have_operations, IsWellFormed}
 use Rattle.ada_program.specs.Nested.{collected, part_nests, statements_nest, handlers_nest, callees_of, CollectionsNest}
 use Rattle.ada_program.specs.Freed.{statements_free_own, handlers_free_own, body_frees_own, FreesItsOwn}
 use Rattle.ada_effects.specs.Effects.{Implicit, effects_of}
@@ -34,9 +36,9 @@ use Rattle.ada_meaning.specs.Step.{halts, moves, tells, asks, picks}
 use Rattle.ada_meaning.specs.Named.{State, Next, next}
 use Rattle.ada_meaning.specs.Run.{Event, Choice, settled, grants, takes, Leads, Run, here, there, Halts, first_state}
 use Rattle.ada_quiet.specs.Idle.{makes_parts, copies_parts}
-use Rattle.ada_quiet.specs.InUse.{may_be_frugal, operations_are_in_use}
+use Rattle.ada_quiet.specs.InUse.{operations_are_in_use}
 use Rattle.ada_quiet.specs.Releases.{text_frees_inside}
-use Rattle.ada_sound.specs.Always.{IsChecked, LetsNothingOut, reaches_holder, spare_own_types, SparesHolders, SparesOwn, Breaks, IsIllFormed, IsIllNested, FreesOthers, NotInUse, LetsSomeOut, UsesOwn, InSomeRun, is_seen, IsFineAtEnds, HaltsAfter, HaltsSomewhere}
+use Rattle.ada_sound.specs.Always.{IsChecked, LetsNothingOut, reaches_holder, spare_own_types, SparesHolders, SparesNewer, SparesOwn, Breaks, IsIllFormed, IsIllNested, FreesOthers, NotInUse, UsesNewer, LetsSomeOut, UsesOwn, InSomeRun, is_seen, IsFineAtEnds, HaltsAfter, HaltsSomewhere}
 
 -- Events, and the state that they lead to.
 abbrev pub Came : Type 0
@@ -159,6 +161,10 @@ is_formed p =
 abbrev pub fits : ProgramForm → Bool
 fits p = list_all (components_lie p.types) p.types && (have_operations p.types (callable_in p) 0 p.types && is_formed p)
 
+-- What the ends of objects reach is of types whose collections are created before those of their own.
+abbrev ReachesOlder : ProgramForm → Type 0
+ReachesOlder p = (t u : ℕ) → is_access p.types t ≡ true → (implicit_of p).end_reaches t u ≡ true → is_created_before (collections_of p) u t ≡ true
+
 -- There are no such spots.
 abbrev is_none : List Spot → Bool
 is_none [] = true
@@ -168,11 +174,12 @@ none_there : (spots : List Spot) → is_none spots ≡ true → spots ≡ []
 none_there [] none = refl
 none_there (spot ∷ spots) none = absurd (cc none)
 
--- Whether what ends objects spares their own access types, and where a component of a record is freed those in whose objects such a component may lie.
+-- Whether what ends objects spares their own access types, and where a component of a record is freed those in whose objects such a component may lie; and
+-- whether it spares those whose collections are created later.
 abbrev pub spares_types : ProgramForm → Bool
 spares_types p =
     spare_own_types (implicit_of p) 0 p.types
-    && is_none (text_frees_inside (reaches_holder (implicit_of p) p.types) p)
+    && (is_none (text_frees_inside (reaches_holder (implicit_of p) p.types) p) && reach_older p)
 
 -- Whether no exception comes out where a record is finalized, if a Finalize may be called, nor where one is adjusted, if an Adjust may be.
 abbrev pub lets_none_out : ProgramForm → Bool
@@ -288,17 +295,29 @@ module _ (program : Program) (bodies : List BodyForm) (fs : StmtsForm) (hs : Han
   in_use_in e = subst (λ (p : ProgramForm). operations_are_in_use p ≡ true) (sym form_is) (in_use_is (form_with program bodies fs hs) e)
 
   -- Whether the ends of its objects spare their own access types.
-  pub spares_with : (b : Bool) → spare_own_types (implicit_of (form_with program bodies fs hs)) 0 (form_with program bodies fs hs).types ≡ b → spare_own_types (implicit_of (program_form program)) 0 (program_form program).types ≡ b
+  spares_with : (b : Bool) → spare_own_types (implicit_of (form_with program bodies fs hs)) 0 (form_with program bodies fs hs).types ≡ b → spare_own_types (implicit_of (program_form program)) 0 (program_form program).types ≡ b
   spares_with b e = subst (λ (p : ProgramForm). spare_own_types (implicit_of p) 0 p.types ≡ b) (sym form_is) e
 
   spares_in : spares_types (form_with program bodies fs hs) ≡ true → SparesOwn program
   spares_in e = spares_with true (and_parts _ _ e).0
 
   -- And whether it spares those in which components may lie that are freed.
+  holders_in : is_none (text_frees_inside (reaches_holder (implicit_of (form_with program bodies fs hs)) (form_with program bodies fs hs).types) (form_with program bodies fs hs)) ≡ true
+      → SparesHolders program
+  holders_in none may made =
+      subst (λ (p : ProgramForm). text_frees_inside (reaches_holder (implicit_of p) p.types) p ≡ []) (sym form_is) (none_there _ none)
+
   spares_holders_in : spares_types (form_with program bodies fs hs) ≡ true → SparesHolders program
-  spares_holders_in e may made =
-      subst (λ (p : ProgramForm). text_frees_inside (reaches_holder (implicit_of p) p.types) p ≡ []) (sym form_is)
-      (none_there _ (and_parts _ _ e).1)
+  spares_holders_in e = holders_in (and_parts _ _ (and_parts _ _ e).1).0
+
+  -- And whether it spares those whose collections are created later than that of its own.
+  spares_newer_in : spares_types (form_with program bodies fs hs) ≡ true → SparesNewer program
+  spares_newer_in e = subst ReachesOlder (sym form_is) (older_by (form_with program bodies fs hs) (and_parts _ _ (and_parts _ _ e).1).1)
+
+  -- It does not spare such a one.
+  reaches_newer_in : (t u : ℕ) → is_access (form_with program bodies fs hs).types t ≡ true → (implicit_with program bodies fs hs).end_reaches t u ≡ true
+      → is_created_before (collections_of (form_with program bodies fs hs)) u t ≡ false → SparesNewer program → ⊥
+  reaches_newer_in t u access reached late spares = cc (late, subst ReachesOlder form_is spares t u access reached)
 
   -- And whether no exception comes out of what may be called of its Finalize and Adjust.
   lets_none_in : lets_none_out (form_with program bodies fs hs) ≡ true → LetsNothingOut (program_form program)
@@ -307,10 +326,6 @@ module _ (program : Program) (bodies : List BodyForm) (fs : StmtsForm) (hs : Han
   -- And what its procedures and operations do.
   pub does_in : (d : Deed) (c : Callee) → does_by (form_with program bodies fs hs) d c ≡ true → Does (program_form program) d c
   does_in d c e = subst (λ (p : ProgramForm). Does p d c) (sym form_is) ((counts_are_enough (form_with program bodies fs hs) d c).0 e)
-
-  -- Nothing is asked of these where no Finalize may touch storage.
-  pub never_frugal : may_be_frugal (form_with program bodies fs hs) ≡ false → SparesHolders program
-  never_frugal never may made = absurd (cc (never, subst (λ (p : ProgramForm). may_be_frugal p ≡ true) form_is may))
 
   nested_in : is_nested (form_with program bodies fs hs) ≡ true → CollectionsNest (program_form program)
   nested_in e = subst CollectionsNest (sym form_is) (nested_is (form_with program bodies fs hs) e)
@@ -329,6 +344,7 @@ module _ (program : Program) (bodies : List BodyForm) (fs : StmtsForm) (hs : Han
         nests = nested_in both.0;
         frees_own = own_in both.1;
         spares_own = spares_in (spares_is (form_with program bodies fs hs) fine);
+        spares_newer = spares_newer_in (spares_is (form_with program bodies fs hs) fine);
         lets_nothing_out = lets_none_in (lets_none_is (form_with program bodies fs hs) fine);
         spares_holders = spares_holders_in (spares_is (form_with program bodies fs hs) fine);
         obeys = (normal, raising, flow_in (goes normal raising) e);
@@ -344,6 +360,7 @@ module _ (program : Program) (bodies : List BodyForm) (fs : StmtsForm) (hs : Han
         nests = nested_in both.0;
         frees_own = own_in both.1;
         spares_own = spares_in (spares_is (form_with program bodies fs hs) fine);
+        spares_newer = spares_newer_in (spares_is (form_with program bodies fs hs) fine);
         lets_nothing_out = lets_none_in (lets_none_is (form_with program bodies fs hs) fine);
         spares_holders = spares_holders_in (spares_is (form_with program bodies fs hs) fine);
         spot = spot;
@@ -351,16 +368,41 @@ module _ (program : Program) (bodies : List BodyForm) (fs : StmtsForm) (hs : Han
       }
 
   pub not_in_use_in : (normal raising : Option Holds) → fits (form_with program bodies fs hs) ≡ true
-      → operations_are_in_use (form_with program bodies fs hs) ≡ false → lets_none_out (form_with program bodies fs hs) ≡ true
-      → is_kept (form_with program bodies fs hs) ≡ true → flow_with program bodies fs hs ≡ goes normal raising → NotInUse program
-  not_in_use_in normal raising formed unused none kept e =
+      → operations_are_in_use (form_with program bodies fs hs) ≡ false → spares_types (form_with program bodies fs hs) ≡ true
+      → lets_none_out (form_with program bodies fs hs) ≡ true → is_kept (form_with program bodies fs hs) ≡ true
+      → flow_with program bodies fs hs ≡ goes normal raising → NotInUse program
+  not_in_use_in normal raising formed unused spares none kept e =
       let both = and_parts _ _ kept in
       record {
         well_formed = subst IsWellFormed (sym form_is) (fits_is (form_with program bodies fs hs) formed);
         not_in_use = subst (λ (p : ProgramForm). operations_are_in_use p ≡ false) (sym form_is) unused;
         nests = nested_in both.0;
         frees_own = own_in both.1;
+        spares_own = spares_in spares;
+        spares_newer = spares_newer_in spares;
         lets_nothing_out = lets_none_in none;
+        spares_holders = spares_holders_in spares;
+        obeys = (normal, raising, flow_in (goes normal raising) e);
+      }
+
+  pub uses_newer_in : (t u : ℕ) → is_access (form_with program bodies fs hs).types t ≡ true → (implicit_with program bodies fs hs).end_reaches t u ≡ true
+      → is_created_before (collections_of (form_with program bodies fs hs)) u t ≡ false
+      → (normal raising : Option Holds) → fits (form_with program bodies fs hs) ≡ true → operations_are_in_use (form_with program bodies fs hs) ≡ true
+      → spare_own_types (implicit_of (form_with program bodies fs hs)) 0 (form_with program bodies fs hs).types ≡ true
+      → is_none (text_frees_inside (reaches_holder (implicit_of (form_with program bodies fs hs)) (form_with program bodies fs hs).types) (form_with program bodies fs hs)) ≡ true
+      → lets_none_out (form_with program bodies fs hs) ≡ true → is_kept (form_with program bodies fs hs) ≡ true
+      → flow_with program bodies fs hs ≡ goes normal raising → UsesNewer program
+  uses_newer_in t u access reached late normal raising formed used spares none_inside out kept e =
+      let both = and_parts _ _ kept in
+      record {
+        well_formed = subst IsWellFormed (sym form_is) (fits_is (form_with program bodies fs hs) formed);
+        in_use = subst (λ (p : ProgramForm). operations_are_in_use p ≡ true) (sym form_is) used;
+        nests = nested_in both.0;
+        frees_own = own_in both.1;
+        spares_own = spares_with true spares;
+        uses_newer = reaches_newer_in t u access reached late;
+        lets_nothing_out = lets_none_in out;
+        spares_holders = holders_in none_inside;
         obeys = (normal, raising, flow_in (goes normal raising) e);
       }
 
@@ -378,6 +420,7 @@ module _ (program : Program) (bodies : List BodyForm) (fs : StmtsForm) (hs : Han
         nests = nested_in both.0;
         frees_own = own_in both.1;
         spares_own = spares_in spares;
+        spares_newer = spares_newer_in spares;
         lets_some_out = λ (none : LetsNothingOut (program_form program)).
             none.finalizes (subst (λ (p : ProgramForm). makes_parts p ≡ true) (sym form_is) made) e record_type raised;
         spares_holders = spares_holders_in spares;
@@ -466,6 +509,7 @@ module _ (program : Program) (fs : StmtsForm) (hs : HandlersForm) (is : stmt_for
     nests = nested_in program (body_forms program) fs hs refl is has (and_parts _ _ kept).0;
     frees_own = own_in program (body_forms program) fs hs refl is has (and_parts _ _ kept).1;
     spares_own = spares_in program (body_forms program) fs hs refl is has spares;
+    spares_newer = spares_newer_in program (body_forms program) fs hs refl is has spares;
     lets_nothing_out = lets_none_in program (body_forms program) fs hs refl is has none;
     spares_holders = spares_holders_in program (body_forms program) fs hs refl is has spares;
     obeys = (normal, raising, flow_in program (body_forms program) fs hs refl is has (goes normal raising) e);
@@ -479,6 +523,7 @@ module _ (program : Program) (fs : StmtsForm) (hs : HandlersForm) (is : stmt_for
     ill_nested = λ w. cc (unnested, w.declarations);
     frees_own = own_in program (body_forms program) fs hs refl is has own;
     spares_own = spares_in program (body_forms program) fs hs refl is has (spares_is whole fine);
+    spares_newer = spares_newer_in program (body_forms program) fs hs refl is has (spares_is whole fine);
     lets_nothing_out = lets_none_in program (body_forms program) fs hs refl is has (lets_none_is whole fine);
     spares_holders = spares_holders_in program (body_forms program) fs hs refl is has (spares_is whole fine);
     obeys = (normal, raising, flow_in program (body_forms program) fs hs refl is has (goes normal raising) e);
@@ -494,6 +539,7 @@ module _ (program : Program) (fs : StmtsForm) (hs : HandlersForm) (is : stmt_for
         let own : statements_free_own whole.types whole.variables fs ≡ true = rw is at (w.statements) in
         cc (other, own);
     spares_own = spares_in program (body_forms program) fs hs refl is has (spares_is whole fine);
+    spares_newer = spares_newer_in program (body_forms program) fs hs refl is has (spares_is whole fine);
     lets_nothing_out = lets_none_in program (body_forms program) fs hs refl is has (lets_none_is whole fine);
     spares_holders = spares_holders_in program (body_forms program) fs hs refl is has (spares_is whole fine);
     obeys = (normal, raising, flow_in program (body_forms program) fs hs refl is has (goes normal raising) e);

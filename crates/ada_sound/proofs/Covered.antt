@@ -97,7 +97,7 @@ module _ (program : Program) where
 
 module _ (program : Program) (accepted : IsChecked program) where
   first : (input : List ℤ) → Sound program (first_state program input)
-  first input = sound_first program input accepted.well_formed accepted.in_use accepted.nests accepted.frees_own accepted.spares_own accepted.lets_nothing_out accepted.spares_holders accepted.obeys
+  first input = sound_first program input accepted.well_formed accepted.in_use accepted.nests accepted.frees_own accepted.spares_own accepted.spares_newer accepted.lets_nothing_out accepted.spares_holders accepted.obeys
 
   pub frees : FreesAreCovered program
   frees input events before after choice e run step depth a number at is =
@@ -131,7 +131,7 @@ module _ (program : Program) (accepted : IsChecked program) where
       let may = leaves_by program (running_procedure s) f.suspensions e ends.actuals ends.references ends.outer s.control s.mode s.heap _ _ s.masters (f.ready.1) mode ends.first in
       called_raises program number e (rw (runs ∙ is) at (f.stands.body)) (rw (runs ∙ is) at may)
 
-  -- ... and while a collection goes, where one of them runs.
+  -- ... and while collections go, where one of them runs.
   departing_raises : (s : State) → Departing program s → (procedure : Option ℕ) (number : ℕ) (e : Exception) → running_procedure s ≡ procedure → procedure ≡ Some number → EndsBody s → s.mode ≡ Raising e → call_raises (callees.effect_at program number) (is_same e) ≡ true
   departing_raises s (inl d) procedure number e runs is ends mode = absurd (let now = d.runs in cc (now, mode))
   departing_raises s (inr (inl d)) procedure number e runs is ends mode = absurd (let now = d.runs in cc (now, mode))

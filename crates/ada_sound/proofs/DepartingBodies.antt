@@ -1,13 +1,12 @@
--- While an operation runs for a member of a collection that goes (7.6.1), none of the bodies that run uses a value of the collection's access type: what each
--- of their steps leads to, the end of the operation included.
+-- While an operation runs for a member of a collection that goes (7.6.1), none of the bodies that run uses a value of a type whose members have gone: what each of
+-- their steps leads to, the end of the operation included.
 
 use Rattle.std.proofs.Common.{◌≡◌, ℕ, suc, ◌≤◌, Bool, true, false, List, [], ◌∷◌, ◌++◌, length, refl, sym, ap, subst, ◌∙◌, ◌⊎◌, inl, inr}
 use Rattle.std.proofs.lemmas.Bool.{and_parts, false_from_ne_true}
-use Rattle.std.specs.Prelude.{◌==◌, Option, Some}
+use Rattle.std.specs.Prelude.{Option, Some}
 use Rattle.std.specs.List.{AllPairs, slice_get}
 use Rattle.ada_deeds.specs.Implicit.{implicit_of}
-use Rattle.ada_finalized.proofs.Twice.{operated_exist}
-use Rattle.ada_finalized.specs.Law.{NamesExisting, NoOperationRuns, NoOperationRunsOn}
+use Rattle.ada_finalized.specs.Law.{NoOperationRuns}
 use Rattle.ada_program.specs.declared.program.Program.{Program}
 use Rattle.ada_program.specs.declared.program.TypeDefinition.{TypeDefinition}
 use Rattle.ada_program.specs.ProgramForm.{BodyForm, ProgramForm, program_form, body_forms, seen_in}
@@ -15,9 +14,6 @@ use Rattle.ada_program.specs.WellFormed.{is_access}
 use Rattle.ada_meaning.specs.declared.event.Cause.{Cause}
 use Rattle.ada_meaning.specs.declared.event.Cause.TheVariants.{Leaving}
 use Rattle.ada_meaning.specs.declared.event.Halt.{Halt}
-use Rattle.ada_meaning.specs.declared.state.Id.{Id}
-use Rattle.ada_meaning.specs.declared.state.Stage.{Stage}
-use Rattle.ada_meaning.specs.declared.state.Stage.TheVariants.{Building, Existing, Gone}
 use Rattle.ada_meaning.specs.declared.state.Value.{Value}
 use Rattle.ada_meaning.specs.declared.state.Value.TheVariants.{Names}
 use Rattle.ada_meaning.specs.Event.{Quiet}
@@ -26,14 +22,12 @@ use Rattle.ada_meaning.specs.Frame.{Treatment, begins, ends, Returns}
 use Rattle.ada_meaning.specs.Law.{Falls, items_of}
 use Rattle.ada_meaning.specs.Named.{Object, State, Next, object_at, next}
 use Rattle.ada_meaning.specs.Run.{Event}
-use Rattle.ada_meaning.specs.State.{Activation, Master}
+use Rattle.ada_meaning.specs.State.{Activation, Master, collection}
 use Rattle.ada_meaning.specs.Step.{halts, moves, tells, asks, picks, older, operands, places, procedure_of, treating}
 use Rattle.ada_order.proofs.Orders.{items_fall}
 use Rattle.ada_reaching.proofs.Law.{stays_reaching}
 use Rattle.ada_reaching.specs.Law.{AllGoOn, FirstHousesIts, GoesOn, none_hidden}
-use Rattle.ada_reaching.specs.Reaching.{IsReaching, none_unnamed}
-use Rattle.ada_scopes.proofs.Components.{items_fit}
-use Rattle.ada_scopes.proofs.Homes.{ItemsFit}
+use Rattle.ada_reaching.specs.Reaching.{IsReaching, LeftShuns, none_unnamed}
 use Rattle.ada_typed.proofs.Kept.{behind_call}
 use Rattle.ada_untouched.proofs.Law.{steps_alike}
 use Rattle.ada_untouched.specs.Alike.{NextAlike, SparesGhosts, StatesAlike}
@@ -43,29 +37,26 @@ use Rattle.ada_sound.specs.Callees.{IsCovered}
 use Rattle.ada_sound.proofs.Alters.{Alters, alters_same}
 use Rattle.ada_sound.proofs.Callers.{Suspension, callers_of, known_in}
 use Rattle.ada_sound.proofs.CoveredBy.{covered_by}
-use Rattle.ada_sound.proofs.Departing.{IsGoing, IsLeft, IsMember, Seen, Within, confined, ending}
-use Rattle.ada_sound.proofs.DepartingBehind.{BodyEnds, body_ends, confines_running, ending_member, ends_or_not, going_by, has_home, home_inside, home_outside, left_first, left_operated, left_owned, none_quiet, reaching_not_calm, returns_untouched, same_end, scoped_houses}
+use Rattle.ada_sound.proofs.Departing.{AreGone, AreGoneFrom, AreOfItem, IsGoing, IsLeft, IsMember, Seen, Within, confined, ending, has_gone}
+use Rattle.ada_sound.proofs.DepartingBehind.{BodyEnds, body_ends, confines_running, ends_or_not, last_masters, none_quiet, reaching_not_calm, returns_untouched, same_end, scoped_houses, unreached_unfreed}
 use Rattle.ada_sound.proofs.DepartingGoes.{GoesDeparting, InDeparting}
-use Rattle.ada_sound.proofs.DepartingTreats.{is_member_still}
+use Rattle.ada_sound.proofs.DepartingTreats.{is_member_still, kept_elsewhere, leaves_next}
 use Rattle.ada_sound.proofs.Allowance.{Allowance, allowance_of}
 use Rattle.ada_sound.proofs.Grounded.{grounds}
 use Rattle.ada_sound.proofs.Grounds.{Grounds, may_free}
-use Rattle.ada_sound.proofs.Invariant.{AllWait, Control, CoveredIn, EndsWell, IsNewest, ReadyIn, Says, innermost}
-use Rattle.ada_sound.proofs.Items.{HasItem}
+use Rattle.ada_sound.proofs.Invariant.{AllWait, Control, EndsWell, ReadyIn, Says}
 use Rattle.ada_sound.proofs.Operates.{Operates}
-use Rattle.ada_sound.proofs.Operating.{Comes, IsCalm, Sight, WaitsFor, behind_operation}
-use Rattle.ada_sound.proofs.OperationLaw.{operation_ends}
+use Rattle.ada_sound.proofs.Operating.{Comes, IsCalm, Sight, WaitsFor}
 use Rattle.ada_sound.proofs.OrdinarySteps.{operating_goes, state_with}
-use Rattle.ada_sound.proofs.SeenGrounds.{HasHomeThere, home_around, reaching_seen, seen_grounds_within, seen_scoped, seen_typed}
+use Rattle.ada_sound.proofs.SeenGrounds.{reaching_seen, reaching_untreated, seen_grounds_within, seen_scoped, seen_typed}
 use Rattle.ada_sound.proofs.SeenStates.{seen_activations, seen_alters, seen_at, seen_control, seen_ends, seen_masters, seen_mode, seen_on, seen_says}
 use Rattle.ada_sound.proofs.Starts.{Sound}
-use Rattle.ada_sound.proofs.Stored.{Stored, exists_out}
-use Rattle.ada_sound.proofs.StoredStates.{ready_stored}
-use Rattle.ada_sound.proofs.Touching.{Pause, Rests, Touching, operated_among, origin}
+use Rattle.ada_sound.proofs.Touching.{CoversBy, Pause, Rests, Touching, operated_among, origin}
 use Rattle.ada_sound.proofs.TouchingGoes.{GoesTouching, Went}
 use Rattle.ada_sound.proofs.TouchingReturns.{ended_in}
-use Rattle.ada_sound.proofs.TouchingStands.{covers_outermost, finalized_by, frees_not, frugal_calm, treating_before}
+use Rattle.ada_sound.proofs.TouchingStands.{covers_outermost, finalized_by, frugal_calm, treating_before}
 use Rattle.ada_sound.proofs.TouchingSteps.{touching_step}
+use Rattle.ada_sound.proofs.WordsOut.{words_out}
 
 -- The outermost operation that touches storage runs behind the end of its body.
 waits_behind : (program : Program) (s : State) (f : Touching program s) (treatment : Treatment)
@@ -95,9 +86,9 @@ module _ (program : Program) (s : State) (sound : Sound program s) (w : Within p
   abbrev bodies : List BodyForm
   bodies = body_forms program
 
-  -- The access type of the collection is shunned.
+  -- The types whose members have gone are shunned.
   abbrev shuns : ℕ → Bool
-  shuns = λ t. w.access == t
+  shuns = has_gone w.types
 
   -- The state that stands for the real one.
   abbrev v : State
@@ -107,7 +98,7 @@ module _ (program : Program) (s : State) (sound : Sound program s) (w : Within p
   waits : NoOperationRuns w.behind → ⊥
   waits none = let first = (subst NoOperationRuns w.is none).0 in cc first
 
-  -- The bodies shun that type in this one, too.
+  -- The bodies shun those types in this one, too.
   reaching_too : IsReaching p shuns w.apart w.ghosts none_unnamed w.behind w.lower v
   reaching_too = reaching_seen w.seen p shuns w.apart w.behind w.lower w.reaching
 
@@ -115,50 +106,15 @@ module _ (program : Program) (s : State) (sound : Sound program s) (w : Within p
   not_calm : IsCalm (behind_call s.control) → ⊥
   not_calm calm = reaching_not_calm p shuns w.apart w.ghosts w.behind w.lower waits s w.reaching calm
 
-  -- The object exists: an operation of it runs.
+  -- The object is there as in the real state.
   member_found : object_at v.heap w.object ≡ Some w.member.0
   member_found = seen_at w.seen w.object w.is_no_ghost ∙ w.member.1
 
-  -- So its stage says.
-  exists : w.member.0.stage ≡ Existing
-  exists = by w.member.0.stage refl
-    where
-      missing : (NamesExisting s.heap (Names w.object) → ⊥) → ⊥
-      missing none =
-          let never = operated_exist program sound.reached.0 sound.reached.1 s sound.reached.2 w.object none in
-          let behind = left_operated p shuns w.apart w.ghosts w.behind w.lower (Names w.object) (procedure_of s.activations) s.control w.reaching.upper (older s.activations) w.reaching.control never in
-          (subst (NoOperationRunsOn (Names w.object)) w.is behind).0 (treating_before (Names w.object) (Leaving w.master w.item) w.tasks (ending w.object w.master w.item w.pool w.mode w.k) refl)
-
-      other : (stage : Stage) → w.member.0.stage ≡ stage → (stage ≡ Existing → ⊥) → NamesExisting s.heap (Names w.object) → ⊥
-      other stage is not (q, named, x, found, there) =
-          let same : w.object ≡ q = cc named in
-          let one : w.member.0 ≡ x = (let at = w.member.1 in cc (at, same, found)) in
-          not (sym is ∙ ap (λ (y : Object). y.stage) one ∙ there)
-
-      by : (stage : Stage) → w.member.0.stage ≡ stage → w.member.0.stage ≡ Existing
-      by Building is = absurd (missing (other Building is (λ same. cc same)))
-      by Existing is = is
-      by Gone is = absurd (missing (other Gone is (λ same. cc same)))
-
-  -- Its home is an item of the masters in which it is stored.
-  home_in : (under : List Id) (masters : List Master) → Stored under v.heap masters → HasItem w.item w.access w.pool (items_of masters)
-  home_in under masters stored =
-      let x = w.member.0 in
-      let out = exists_out w.object x member_found exists stored in
-      subst (λ (pool : Option ℕ). HasItem w.item w.access pool (items_of masters)) w.member.4
-      (subst (λ (item : ℕ). HasItem item w.access x.cell.home.pool (items_of masters)) w.member.3
-      (subst (λ (access : ℕ). HasItem x.cell.home.item access x.cell.home.pool (items_of masters)) w.member.2 ((stored.sane w.object x member_found).housed out)))
-
-  -- So it is behind the masters of the bodies, which own variables and record objects, and the grounds of the real state say so.
-  home_there : HasItem w.item w.access w.pool (items_of v.masters) → HasHomeThere w.access w.item w.pool s
-  home_there has =
-      let r = w.reaching in
-      let fit : ItemsFit p.types (items_of (r.upper ++ w.lower)) = subst (λ (ms : List Master). ItemsFit p.types (items_of ms)) r.masters (items_fit p s sound.nested) in
-      let masters : v.masters ≡ r.upper ++ w.lower = seen_masters w.seen ∙ r.masters in
-      let own = left_owned p shuns w.apart w.ghosts w.behind w.lower (procedure_of s.activations) s.control r.upper (older s.activations) r.control in
-      let outside = home_outside p.types w.apart w.lower w.item w.access w.pool r.upper w.accessed own fit (subst (λ (ms : List Master). HasItem w.item w.access w.pool (items_of ms)) masters has) in
-      home_around w.access w.item w.pool s r.upper w.lower r.masters (has_home w.item w.access w.pool (items_of w.lower) outside)
-      (left_first p shuns w.apart w.ghosts w.behind w.lower (procedure_of s.activations) s.control r.upper (older s.activations) r.control)
+  -- The end of such an object frees none of those types.
+  ends_none : (t : ℕ) → has_gone w.types t ≡ true → (implicit_of p).end_frees w.access t ≡ false
+  ends_none t gone =
+      let are : AreGone program w.types (record { number = w.item; owned = collection w.access w.pool } ∷ w.going.items) w.going.outer = subst (AreGoneFrom program w.types) w.going.is w.are in
+      unreached_unfreed p w.access t (are.spared.0 t gone)
 
   -- The body of an operation that touches storage runs.
   module _ (f : Touching program v) where
@@ -204,43 +160,25 @@ module _ (program : Program) (s : State) (sound : Sound program s) (w : Within p
         by (begins how done) same (part, is) = absurd (let never = sym is ∙ back_is ∙ w.is in cc never)
         by (ends cause) same waits' = (cause, same)
 
-    -- So the running body frees no object of its type.
-    frees_none : may_free program s w.access ≡ false
-    frees_none = false_from_ne_true (may_free program s w.access) (λ may. (
-        let so = and_parts (is_access p.types w.access) _ (subst (λ (z : State). may_free program z w.access ≡ true) (sym w.seen.alike.rest) may) in
+    -- So the running body frees no object of those types.
+    frees_none : (t : ℕ) → has_gone w.types t ≡ true → may_free program s t ≡ false
+    frees_none t gone = false_from_ne_true (may_free program s t) (λ may. (
+        let so = and_parts (is_access p.types t) _ (subst (λ (z : State). may_free program z t ≡ true) (sym w.seen.alike.rest) may) in
         let waiting = subst (λ (all : List Suspension). AllWait (implicit_of p) (seen_in (running_procedure v) p) (callers_of program all)) f.within.are f.stands.standing.waiting in
         let behind_it = origin program (length f.within.inner) v outermost ∷ outermost.suspensions in
-        let covered = covers_outermost program sound.spares_own v thrifty outermost.behind outermost.lower (running_procedure v) 0 outermost.number behind_it f.within.inner f.within.within waiting w.access so.1 in
-        frees_not program sound.spares_own v (length f.within.inner) outermost is_ended.0 is_ended.1 w.object w.member.0 member_found object_is
-        (subst (λ (t : ℕ). CoveredIn (implicit_of p) (seen_in (Some outermost.number) p) t) (sym w.member.2) covered)
-        (subst (λ (t : ℕ). is_access p.types t ≡ true) (sym w.member.2) w.accessed)
+        let covered = covers_outermost program sound.spares_own v thrifty outermost.behind outermost.lower (running_procedure v) 0 outermost.number behind_it f.within.inner f.within.within waiting t so.1 in
+        let one : outermost.x ≡ w.member.0 = (let found = outermost.found in let same = object_is in let there = member_found in cc (found, same, there)) in
+        let of_access : outermost.access ≡ w.access = sym outermost.of_access ∙ (ap (λ (x : Object). x.cell.access) one ∙ w.member.2) in
+        let frees : (implicit_of p).end_frees outermost.access t ≡ true = subst (λ (treatment : Treatment). CoversBy p treatment outermost.access t) is_ended.1 (outermost.covers t covered) in
+        let none = ends_none t gone in
+        cc (frees, of_access, none)
         ))
-
-    -- The home of the object is among the masters.
-    home_touching : HasItem w.item w.access w.pool (items_of v.masters)
-    home_touching = let stored = ready_stored (known_in program (running_procedure v) f.suspensions) v f.ready in home_in stored.0 v.masters stored.1
 
     -- They hold in the state that stands for it.
     grounds_touching : Untouched none_hidden w.ghosts s → Grounds program v
-    grounds_touching untouched = seen_grounds_within program w.seen (grounds program s sound) sound.reached (home_there home_touching) untouched not_calm frees_none
-
-  -- The body of one runs that touches none.
-  module _ (o : Operates program v) where
-    -- What it sees.
-    abbrev quiet_sight : Sight
-    quiet_sight = record { program = seen_in (Some o.procedure) p; object = o.object; access = o.access }
-
-    -- The home of the object is among the masters.
-    home_operating : HasItem w.item w.access w.pool (items_of v.masters)
-    home_operating =
-        let c = (operation_ends program v o).0 in
-        let stored = ready_stored (known_in program o.caller.procedure o.suspended.suspensions) (behind_operation (o.caller ∷ o.rest) o.behind o.lower v) c.stepped.ready in
-        rw o.masters (home_inside w.item w.access w.pool o.upper o.lower (home_in stored.0 o.lower stored.1))
-
-  -- The home of the object is among the masters, whichever body runs.
-  home_so : Operates program v ⊎ Touching program v → HasItem w.item w.access w.pool (items_of v.masters)
-  home_so (inl o) = home_operating o
-  home_so (inr f) = home_touching f
+    grounds_touching untouched =
+        seen_grounds_within program w.seen (grounds program s sound) sound.reached (words_out program s sound.reached) untouched
+        (reaching_untreated p shuns w.apart w.ghosts none_unnamed w.behind w.lower s w.reaching) not_calm frees_none
 
   -- The numbers of items fall.
   falls : AllPairs Falls (items_of s.masters)
@@ -253,7 +191,7 @@ module _ (program : Program) (s : State) (sound : Sound program s) (w : Within p
   -- So it is in the state that stands for the real one.
   houses_too : FirstHousesIts v.control v.heap v.masters
   houses_too =
-      scoped_houses p v (seen_scoped w.seen p (home_there (home_so w.goes)) sound.nested)
+      scoped_houses p v (seen_scoped w.seen p sound.nested)
       (subst (λ (ms : List Master). AllPairs Falls (items_of ms)) (sym (seen_masters w.seen)) falls)
 
   -- What comes next of the state that stands for the real one.
@@ -262,13 +200,15 @@ module _ (program : Program) (s : State) (sound : Sound program s) (w : Within p
   seen_goes untouched (inr f) = touching_step program v (grounds_touching f untouched) f
 
   -- Some master is entered.
-  entered : (masters : List Master) → HasItem w.item w.access w.pool (items_of masters) → (m : Master) × (ms : List Master) × (masters ≡ m ∷ ms)
-  entered [] has = absurd has
-  entered (m ∷ ms) has = (m, ms, refl)
+  entered : (upper : List Master) → (m : Master) × (ms : List Master) × (upper ++ w.lower ≡ m ∷ ms)
+  entered [] = (_, w.going.outer, w.going.is)
+  entered (m ∷ upper) = (m, upper ++ w.lower, refl)
 
   -- Where a run ends there, it ends well.
   ends_well : (halt : Halt) → EndsWell halt v.heap v.masters → EndsWell halt s.heap s.masters
-  ends_well halt well = let some = entered v.masters (home_so w.goes) in seen_ends w.seen halt some.0 some.1 some.2 well
+  ends_well halt well =
+      let some = entered w.reaching.upper in
+      seen_ends w.seen halt some.0 some.1 (seen_masters w.seen ∙ (w.reaching.masters ∙ some.2)) well
 
   -- The bodies go on.
   module _ (on : s.control ≡ Returns [] [] ∷ w.behind → ⊥) where
@@ -285,7 +225,7 @@ module _ (program : Program) (s : State) (sound : Sound program s) (w : Within p
     module _ (e : Event) (after view : State) (alike : StatesAlike none_hidden w.ghosts after view) (spares : SparesGhosts w.ghosts e)
         (goes : GoesOn p shuns w.apart w.ghosts none_unnamed w.behind w.lower s.heap after) (goes_too : GoesOn p shuns w.apart w.ghosts none_unnamed w.behind w.lower v.heap view) where
       -- The one state stands for the other one behind the step.
-      seen_then : Seen w.access w.item w.pool w.ghosts after view
+      seen_then : Seen w.types w.item w.ghosts after view
       seen_then = seen_on w.seen goes.same goes_too.same alike
 
       -- The operation runs on.
@@ -297,6 +237,7 @@ module _ (program : Program) (s : State) (sound : Sound program s) (w : Within p
           let procedure : running_procedure view ≡ running_procedure after = ap procedure_of (seen_activations seen_then) in
           record {
             body = inr (inr (record {
+              types = w.types;
               access = w.access;
               master = w.master;
               item = w.item;
@@ -313,11 +254,13 @@ module _ (program : Program) (s : State) (sound : Sound program s) (w : Within p
               behind = w.behind;
               is = w.is;
               calm = w.calm;
-              ahead = w.ahead;
               accessed = w.accessed;
               apart = w.apart;
               are_apart = w.are_apart;
               lower = w.lower;
+              going = w.going;
+              are = w.are;
+              here = λ o x is found. w.here o x is (sym (goes.same o is) ∙ found);
               reaching = goes.reaching;
               goes = runs;
             }));
@@ -395,7 +338,7 @@ module _ (program : Program) (s : State) (sound : Sound program s) (w : Within p
         subst (StatesAlike none_hidden w.ghosts after) same alike.2
 
     -- So the one stands for the other one.
-    seen_behind : Seen w.access w.item w.pool w.ghosts after view
+    seen_behind : Seen w.types w.item w.ghosts after view
     seen_behind = seen_on w.seen (λ o ghost. ap (λ (heap : List Object). object_at heap o) real_end.heap) (λ o ghost. ap (λ (heap : List Object). object_at heap o) view_end.heap) alike_then
 
     -- What is left of the object comes next.
@@ -405,6 +348,14 @@ module _ (program : Program) (s : State) (sound : Sound program s) (w : Within p
     -- It is of the collection still.
     member_behind : IsMember after.heap w.object w.access w.item w.pool
     member_behind = subst (λ (heap : List Object). IsMember heap w.object w.access w.item w.pool) (sym real_end.heap) w.member
+
+    -- All masters of the bodies have been left.
+    masters_behind : w.lower ≡ after.masters
+    masters_behind =
+        let none = last_masters p shuns w.apart w.ghosts w.behind w.lower (procedure_of s.activations) w.reaching.upper (older s.activations)
+        (subst (λ (k : Control). LeftShuns p shuns w.apart w.ghosts none_unnamed w.behind w.lower (procedure_of s.activations) k w.reaching.upper (older s.activations)) is w.reaching.control) in
+        let here : s.masters ≡ w.lower = w.reaching.masters ∙ ap (λ (upper : List Master). upper ++ w.lower) none in
+        sym (real_end.masters ∙ here)
 
     -- No operation runs then.
     went_behind : Went program v.heap Quiet view → InDeparting program s.heap Quiet after
@@ -417,28 +368,24 @@ module _ (program : Program) (s : State) (sound : Sound program s) (w : Within p
     went_behind (inr (inr (c, calm, settled))) =
         let known = known_in program (running_procedure view) c.suspensions in
         let ready = subst (λ (k : Control). ReadyIn known view.mode k view.heap (places view) (operands view) view.masters) control_behind c.stepped.ready.1 in
-        let confined_so = confines_running known view.mode _ view.heap (places view) (operands view) view.masters ready in
-        let e = ending_member known w.object w.master w.item w.pool w.mode w.k view.heap (places view) (operands view) view.masters w.tasks confined_so.1 in
-        let has = subst (λ (heap : List Object). object_at heap w.object ≡ Some w.member.0) (sym view_end.heap) member_found in
-        let one : e.x ≡ w.member.0 = (let at = e.found in cc (at, has)) in
-        let masters : view.masters ≡ s.masters = view_end.masters ∙ seen_masters w.seen in
-        let home : HasItem w.item w.access w.pool (items_of view.masters) = subst (λ (ms : List Master). HasItem w.item w.access w.pool (items_of ms)) (sym view_end.masters) (home_so w.goes) in
-        let newest : IsNewest w.item (innermost view.masters) = subst (λ (number : ℕ). IsNewest number (innermost view.masters)) (sym e.at_home) e.newest in
-        let fit : ItemsFit p.types (items_of view.masters) = subst (λ (ms : List Master). ItemsFit p.types (items_of ms)) (sym masters) (items_fit p s sound.nested) in
-        let going = going_by program w.access w.item w.pool view.masters w.accessed fit e.stored.counted home newest w.ahead in
+        let runs = confines_running known view.mode _ view.heap (places view) (operands view) view.masters ready in
         record {
           body = inl (record {
-            access = w.access;
+            types = w.types;
             master = w.master;
             item = w.item;
-            pool = w.pool;
+            owned = collection w.access w.pool;
             ghosts = w.ghosts;
             v = view;
             seen = seen_behind;
-            runs = sym (seen_mode seen_behind) ∙ confined_so.0;
-            going = subst (IsGoing program w.access w.item w.pool) (seen_masters seen_behind) going;
-            left = subst (IsLeft w.access w.master w.item w.pool w.ghosts after.heap) (sym (real_end.control ∙ w.is)) (confined w.object w.tasks w.mode w.k w.is_no_ghost (member_behind.0, member_behind.1, member_behind.2));
-            ordinary = record { suspensions = c.suspensions; ready = c.stepped.ready; stands = c.stands; calm = calm; settled = settled };
+            runs = sym (seen_mode seen_behind) ∙ runs;
+            going = subst (IsGoing program w.item (collection w.access w.pool)) masters_behind w.going;
+            are = subst (AreGoneFrom program w.types) masters_behind w.are;
+            here = subst (AreOfItem w.item (collection w.access w.pool) w.ghosts) (sym real_end.heap) w.here;
+            left = subst (IsLeft (collection w.access w.pool) w.master w.item w.ghosts after.heap) (sym (real_end.control ∙ w.is))
+                (confined w.access w.pool w.object w.tasks w.mode w.k refl w.is_no_ghost (member_behind.0, member_behind.1, member_behind.2));
+            kept = kept_elsewhere program view (record { suspensions = c.suspensions; ready = c.stepped.ready; stands = c.stands; calm = calm; settled = settled })
+                (ap leaves_next control_behind);
           });
           alters = subst (Alters s.heap Quiet) (sym real_end.heap) (alters_same s.heap Quiet);
           says = tt;
@@ -454,7 +401,7 @@ module _ (program : Program) (s : State) (sound : Sound program s) (w : Within p
 -- So it is in each state where an operation runs for such a member.
 pub within_step : (program : Program) (s : State) → Sound program s → Within program s → GoesDeparting program s (next program.types.items (body_forms program) s)
 within_step program s sound w =
-    elim (ends_or_not (program_form program) (λ t. w.access == t) w.apart w.ghosts w.behind w.lower (procedure_of s.activations) s.control w.reaching.upper (older s.activations) w.reaching.control) [
+    elim (ends_or_not (program_form program) (has_gone w.types) w.apart w.ghosts w.behind w.lower (procedure_of s.activations) s.control w.reaching.upper (older s.activations) w.reaching.control) [
       | inl is ↦ body_ends_here program s sound w is
       | inr on ↦ bodies_go_on program s sound w on
     ]

@@ -1,6 +1,6 @@
--- Where a collection goes for whose objects operations may be called that touch storage (7.6.1), each step leads on there, or behind it.
+-- Where collections go up to one for whose objects operations may be called that touch storage (7.6.1), each step leads on there, or behind it.
 
-use Rattle.std.proofs.Common.{◌≡◌, ℕ, Bool, List, [], ◌⊎◌, ◌≤◌, suc}
+use Rattle.std.proofs.Common.{◌≡◌, ℕ, Bool, List, ◌⊎◌, ◌≤◌, suc}
 use Rattle.std.specs.Prelude.{Some}
 use Rattle.std.specs.List.{slice_get}
 use Rattle.ada_deeds.specs.Implicit.{implicit_of}
@@ -16,9 +16,9 @@ use Rattle.ada_typed.proofs.Kept.{behind_call}
 use Rattle.ada_sound.specs.Agreement.{running_procedure}
 use Rattle.ada_sound.specs.Callees.{IsCovered}
 use Rattle.ada_sound.proofs.Alters.{Alters}
-use Rattle.ada_sound.proofs.Callers.{callers_of}
+use Rattle.ada_sound.proofs.Callers.{AreCalls}
 use Rattle.ada_sound.proofs.Departing.{Departing}
-use Rattle.ada_sound.proofs.Invariant.{EndsWell, Says, under_in}
+use Rattle.ada_sound.proofs.Invariant.{EndsWell, Says}
 use Rattle.ada_sound.proofs.Operating.{IsCalm}
 use Rattle.ada_sound.proofs.Returns.{Crosses}
 
@@ -29,10 +29,10 @@ pub record InDeparting (program : Program) (before : List Object) (e : Event) (a
   pub says : Says (implicit_of (program_form program)) (seen_in (running_procedure after) (program_form program)) e before after
   pub covers : (depth : ℕ) (a : Activation Value) (number : ℕ) → slice_get after.activations depth ≡ Some a → a.procedure ≡ Some number → IsCovered program number e
 
--- Or it has gone, and no operation runs.
+-- Or they have gone, and no operation runs.
 abbrev pub Went : Program → List Object → Event → State → Type 0
 Went program before e after =
-    InDeparting program before e after ⊎ ((c : Crosses program before e after) × IsCalm (behind_call after.control) × (under_in (callers_of program c.suspensions) ≡ []))
+    InDeparting program before e after ⊎ ((c : Crosses program before e after) × IsCalm (behind_call after.control) × (AreCalls c.suspensions))
 
 -- So it is whatever comes next.
 abbrev pub GoesDeparting : Program → State → Next → Type 0

@@ -66,11 +66,11 @@ module _ (program : Program) (s : State) (d : Within program s) where
   }
 
 -- Each object is as it is in the real state, or it is a ghost.
-pub stands_for : {access item : ℕ} {pool : Option ℕ} {ghosts : Id → Bool} {s v : State} → Seen access item pool ghosts s v → StandsFor s v access item
-stands_for {access} {item} {pool} {ghosts} {s} {v} seen = record { rest = seen.alike.rest; objects = λ o. by o (ghosts o) refl }
+pub stands_for : {types : List ℕ} {item : ℕ} {ghosts : Id → Bool} {s v : State} → Seen types item ghosts s v → StandsFor s v item
+stands_for {types} {item} {ghosts} {s} {v} seen = record { rest = seen.alike.rest; objects = λ o. by o (ghosts o) refl }
   where
-    by : (o : Id) (b : Bool) → ghosts o ≡ b → (object_at v.heap o ≡ object_at s.heap o) ⊎ HasDeparted access item (object_at s.heap o) (object_at v.heap o)
+    by : (o : Id) (b : Bool) → ghosts o ≡ b → (object_at v.heap o ≡ object_at s.heap o) ⊎ HasDeparted item (object_at s.heap o) (object_at v.heap o)
     by o false is = inl (seen_at seen o is)
     by o true is =
         let d = seen.departed o is in
-        inr (record { object = d.object; there = d.there; gone = d.gone; back = d.back; of_access = d.of_access; at_home = d.at_home; is = d.is })
+        inr (record { object = d.object; there = d.there; gone = d.gone; back = d.back; newer = d.newer; is = d.is })

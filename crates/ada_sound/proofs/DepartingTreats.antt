@@ -1,11 +1,10 @@
--- A member of a collection that goes is finalized (7.6.1), for whose objects operations may be called that touch storage: what is treated next, what the step leads to,
--- and what is behind the body of an operation that has ended.
+-- A member of a collection that goes is finalized (7.6.1), while for objects of its master operations may be called that touch storage: what is treated next, what the
+-- step leads to, and what is behind the body of an operation that has ended.
 
-use Rattle.std.proofs.Common.{◌≡◌, ◌≢◌, ℕ, suc, ◌<◌, ◌≤◌, Bool, true, false, List, [], ◌∷◌, length, refl, sym, ap, subst, ◌∙◌, ◌⊎◌, inl, inr, arith}
+use Rattle.std.proofs.Common.{◌≡◌, ◌≢◌, ℕ, suc, ◌≤◌, Bool, true, false, List, [], ◌∷◌, drop, length, refl, sym, ap, subst, ◌∙◌, ◌⊎◌, inl, inr, arith}
 use Rattle.std.specs.Prelude.{◌==◌, if◌then◌else◌, Option, Some, None}
 use Rattle.std.specs.List.{slice_get}
 use Rattle.ada_deeds.specs.Implicit.{implicit_of}
-use Rattle.ada_parts.proofs.Facts.{eq_self}
 use Rattle.ada_parts.specs.declared.tasks.Next.{Next as Follows}
 use Rattle.ada_parts.specs.declared.tasks.Next.TheVariants.{Done, Pick, Perform}
 use Rattle.ada_parts.specs.Task.{Task, performed, next as task_next}
@@ -30,8 +29,8 @@ use Rattle.ada_meaning.specs.Heap.{Cell, Found, Home, PartState, on_null, on_gon
 use Rattle.ada_meaning.specs.Law.{items_of}
 use Rattle.ada_meaning.specs.Named.{Object, State, Next, named, object_at, look, on_object, treated, finalized_part, changed, next}
 use Rattle.ada_meaning.specs.Run.{Event, settled}
-use Rattle.ada_meaning.specs.State.{Activation, Master, height}
-use Rattle.ada_meaning.specs.Step.{halts, moves, tells, asks, picks, direction_of, ended_next, finalized_next, older, operating, operation_next, part_reference, performed_next, picked_task, procedure_of, treated_on, treating, treats_next}
+use Rattle.ada_meaning.specs.State.{Activation, Master, Owned, collection}
+use Rattle.ada_meaning.specs.Step.{halts, moves, tells, asks, picks, direction_of, ended_next, finalized_next, older, operands_of, operating, operation_next, part_reference, performed_next, picked_task, places_of, procedure_of, treated_on, treating, treats_next}
 use Rattle.ada_owners.proofs.Objects.{at_other}
 use Rattle.ada_reaching.proofs.Law.{operation_reaches}
 use Rattle.ada_reaching.specs.Apart.{Apart}
@@ -48,14 +47,15 @@ use Rattle.ada_typed.proofs.Lying.{IsOperable}
 use Rattle.ada_typed.proofs.Runs.{step_typed}
 use Rattle.ada_untouched.proofs.Law.{steps_alike}
 use Rattle.ada_untouched.specs.Alike.{NextAlike, StatesAlike}
+use Rattle.ada_sound.specs.Agreement.{running_procedure}
+use Rattle.ada_sound.proofs.Ahead.{ahead_in}
 use Rattle.ada_sound.proofs.Alters.{Alters, alters_same}
 use Rattle.ada_sound.proofs.Callers.{known_in, Stands}
-use Rattle.ada_sound.proofs.Departing.{Between, Departing, HasAccess, IsGoing, IsMember, IsLeft, Seen, confined, ended, ending, next_member, treated as member_treated}
+use Rattle.ada_sound.proofs.Departing.{AreGone, AreGoneFrom, AreOfItem, Between, Departing, HasAccess, IsGoing, IsKept, IsLow, IsMember, IsLeft, Seen, confined, ended, ending, has_gone, next_member, treated as member_treated}
 use Rattle.ada_sound.proofs.DepartingGoes.{GoesDeparting, InDeparting}
 use Rattle.ada_sound.proofs.Grounded.{grounds}
 use Rattle.ada_sound.proofs.Grounds.{Grounds, Ordinary}
-use Rattle.ada_sound.proofs.Items.{HasItem, height_is, item_below}
-use Rattle.ada_sound.proofs.Invariant.{Control, EndsWell, Known, Ready, Stepped, departs_next}
+use Rattle.ada_sound.proofs.Invariant.{Control, EndsWell, Known, Ready, ReadyIn, Stepped, departs, departs_next, innermost}
 use Rattle.ada_sound.proofs.Operated.{OperatedAs}
 use Rattle.ada_sound.proofs.Operates.{Operates}
 use Rattle.ada_sound.proofs.Operating.{IsCalled, IsCalm, WaitsFor}
@@ -64,16 +64,41 @@ use Rattle.ada_sound.proofs.OperationStarts.{calm_behind}
 use Rattle.ada_sound.proofs.OrdinarySteps.{calm_here, in_use_here, state_with, treated_in}
 use Rattle.ada_sound.proofs.QuietOperations.{AdjustsCopy, IsUsedAs, used_as}
 use Rattle.ada_sound.proofs.Ready.{running}
-use Rattle.ada_sound.proofs.SeenGrounds.{newest_home, seen_grounds_between}
+use Rattle.ada_sound.proofs.SeenGrounds.{seen_grounds_between}
 use Rattle.ada_sound.proofs.SeenStates.{seen_at, seen_control, seen_ends, seen_on}
 use Rattle.ada_sound.proofs.ShunningEnds.{finalize_shuns}
-use Rattle.ada_sound.proofs.SparesOwn.{reaches_own_none}
 use Rattle.ada_sound.proofs.Starts.{Sound}
 use Rattle.ada_sound.proofs.Touching.{Touching}
 use Rattle.ada_sound.proofs.TouchingStarts.{touching_outermost}
 use Rattle.ada_sound.proofs.Treating.{told_covered, told_says}
 use Rattle.ada_sound.proofs.Treatments.{Begins, Goes, StaysHere, TellsNothing, TreatedIn, alters_treated, confines_fine}
 use Rattle.ada_sound.proofs.Waiting.{stands_kept}
+use Rattle.ada_sound.proofs.WordsOut.{words_out}
+
+-- A master is left next.
+abbrev pub leaves_next : Control → Bool
+leaves_next [] = false
+leaves_next (frame.Leaves mode ∷ k) = true
+leaves_next (f ∷ k) = false
+
+-- Where none is, nothing more is known of variables,
+low_elsewhere :
+    (known : Known) (mode : Mode) (k : Control) (heap : List Object) (places operands : List Value) (masters : List Master) (ready : ReadyIn known mode k heap places operands masters)
+    → leaves_next k ≡ false → IsLow known mode k heap places operands masters ready
+low_elsewhere known Running (frame.Leaves left ∷ k) heap places operands masters ready none = absurd (cc none)
+low_elsewhere known mode k heap places operands masters ready none = tt
+
+-- so the invariant is all that is to be kept.
+pub kept_elsewhere : (program : Program) (v : State) → Ordinary program v → leaves_next v.control ≡ false → IsKept program v
+kept_elsewhere program v o none = record {
+  ordinary = o;
+  low = low_elsewhere (known_in program (running_procedure v) o.suspensions) v.mode v.control v.heap (places_of v.activations) (operands_of v.activations) v.masters o.ready.1 none;
+}
+
+-- None is, where a member is treated, or ends.
+leaves_behind : (v : Value) (treatment : Treatment) (tasks : List Task) (w : Value) (k : Control) → leaves_next (treating v treatment tasks (frame.Ends w ∷ k)) ≡ false
+leaves_behind v treatment [] w k = refl
+leaves_behind v treatment (task ∷ tasks) w k = refl
 
 -- What is of a collection is so behind a step.
 pub is_member_still :
@@ -185,8 +210,8 @@ module _ (types : List TypeDefinition) (bodies : List BodyForm) (o : Id) (cause 
 
 -- A member is treated next.
 module _
-    (program : Program) (a : Activation Value) (rest : List (Activation Value)) (s : State) (h : List Object) (access master item : ℕ) (pool : Option ℕ) (ghosts : Id → Bool)
-    (object : Id) (mode : Mode) (k : Control) (tasks : List Task) where
+    (program : Program) (a : Activation Value) (rest : List (Activation Value)) (s : State) (h : List Object) (types : List ℕ) (access master item : ℕ) (pool : Option ℕ)
+    (ghosts : Id → Bool) (object : Id) (mode : Mode) (k : Control) (tasks : List Task) where
   -- The program.
   abbrev p : ProgramForm
   p = program_form program
@@ -228,8 +253,9 @@ module _
   view_taken = state_with Running behind_it (a ∷ rest) seen_heap
 
   module _
-      (sound : Sound program real) (grounds : Grounds program view) (o : Ordinary program view) (seen : Seen access item pool ghosts real view)
-      (plain : ghosts object ≡ false) (has : HasAccess s.heap object access) (going : IsGoing program access item pool s.masters) where
+      (sound : Sound program real) (grounds : Grounds program view) (o : Ordinary program view) (seen : Seen types item ghosts real view)
+      (plain : ghosts object ≡ false) (has : HasAccess s.heap object access) (going : IsGoing program item (collection access pool) s.masters)
+      (are : AreGoneFrom program types s.masters) (here : AreOfItem item (collection access pool) ghosts s.heap) where
     -- What is known of the body that runs.
     abbrev treater : Known
     treater = known_in program a.procedure o.suspensions
@@ -250,18 +276,30 @@ module _
     ghosts_stay : (taken : State) (e : Event) (after : State) → Does taken e after → GhostsStay ghosts taken.heap after.heap
     ghosts_stay taken e after does q is = does.stays q (other q is)
 
+    -- And of its access type.
+    here_still : (e : Event) (after : State) → Does real_taken e after → AreOfItem item (collection access pool) ghosts after.heap
+    here_still e after does q x is found = here q x is (sym (ghosts_stay real_taken e after does q is) ∙ found)
+
     -- The object is still of its access type.
     has_still : (e : Event) (after : State) → Does real_taken e after → HasAccess after.heap object access
     has_still e after does = let y = does.alters.kept object has.0 has.1 in (y.0, y.1, y.2.0 ∙ has.2)
 
     -- What is left of it is treated, or it ends.
-    left_of : (left : List Task) (heap : List Object) → HasAccess heap object access → IsLeft access master item pool ghosts heap (treating (Names object) leaving left behind_it)
-    left_of [] heap there = ended object mode k plain there
-    left_of (task ∷ left) heap there = member_treated object (task ∷ left) mode k plain there
+    left_of : (left : List Task) (heap : List Object) → HasAccess heap object access → IsLeft (collection access pool) master item ghosts heap (treating (Names object) leaving left behind_it)
+    left_of [] heap there = ended access pool object mode k refl plain there
+    left_of (task ∷ left) heap there = member_treated access pool object (task ∷ left) mode k refl plain there
 
     -- Objects of this type are of an access type.
     accessed : is_access p.types access ≡ true
     accessed = (subst (λ (ms : List Master). ItemsFit p.types (items_of ms)) going.is (items_fit p real sound.nested)).0
+
+    -- For the objects of such items operations may be called that touch storage.
+    going_so : departs (ahead_in p) (innermost s.masters) ≡ true
+    going_so = subst (λ (ms : List Master). departs (ahead_in p) (innermost ms) ≡ true) (sym going.is) going.goes
+
+    -- What is known of the types whose members have gone.
+    are_here : AreGone program types (record { number = item; owned = collection access pool } ∷ going.items) going.outer
+    are_here = subst (AreGoneFrom program types) going.is are
 
     -- The step does this to objects, and tells of no storage.
     departing_by : (e : Event) (after : State) → Does real_taken e after → Departing program after → InDeparting program s.heap e after
@@ -274,7 +312,7 @@ module _
 
     module _ (e : Event) (after seen_after : State) (alike : StatesAlike none_hidden ghosts after seen_after) (does : Does real_taken e after) (does_too : Does view_taken e seen_after) where
       -- The one state stands for the other one behind the step.
-      seen_then : Seen access item pool ghosts after seen_after
+      seen_then : Seen types item ghosts after seen_after
       seen_then = seen_on seen (ghosts_stay real_taken e after does) (ghosts_stay view_taken e seen_after does_too) alike
 
       -- What is left is treated.
@@ -283,26 +321,28 @@ module _
           let same : after.activations ≡ a ∷ rest = sym (ap (λ (t : State). t.activations) alike.rest) ∙ acts in
           let on = does.on same in
           departing_by e after does (inl (record {
-            access = access;
+            types = types;
             master = master;
             item = item;
-            pool = pool;
+            owned = collection access pool;
             ghosts = ghosts;
             v = seen_after;
             seen = seen_then;
             runs = on.mode;
-            going = subst (IsGoing program access item pool) (sym on.masters) going;
-            left = subst (IsLeft access master item pool ghosts after.heap) (sym on.control) (left_of on.tasks after.heap (has_still e after does));
-            ordinary = record {
+            going = subst (IsGoing program item (collection access pool)) (sym on.masters) going;
+            are = subst (AreGoneFrom program types) (sym on.masters) are;
+            here = here_still e after does;
+            left = subst (IsLeft (collection access pool) master item ghosts after.heap) (sym on.control) (left_of on.tasks after.heap (has_still e after does));
+            kept = kept_elsewhere program seen_after (record {
               suspensions = o.suspensions;
               ready = subst (λ (procedure : Option ℕ). Ready (known_in program procedure o.suspensions) seen_after) (sym (ap procedure_of acts)) st.ready;
               stands = stands_kept program view seen_after o.suspensions o.stands e (record { procedure = ap procedure_of acts; suspended = ap older acts }) st.alters;
               calm = rw behind (o.calm);
               settled = o.settled;
-            };
+            }) (ap leaves_next (ap (λ (t : State). t.control) alike.rest ∙ on.control) ∙ leaves_behind (Names object) leaving on.tasks (Names object) (drop 1 behind_it));
           }))
 
-      -- A Finalize of a part is called: it and what it calls use no value of the access type.
+      -- A Finalize of a part is called: it and what it calls use no value of a type whose members have gone.
       module _ (c : Begins treater a rest seen_heap tds bodies behind_it Operated e seen_after) (typing : typed.Typed p seen_after) where
         -- It is called for this object.
         same_object : c.o ≡ object
@@ -342,7 +382,7 @@ module _
             (calm_around program a rest o.suspensions seen_heap behind_it Operated e seen_after c o.calm o.settled) quiet)
         body_begins (inr (inl (may_touch, may, frugal, touches))) =
             inr (touching_outermost program a rest seen_heap behind_it (Names object) leaving tasks o.suspensions view refl grounds (calm_here program a rest behind_it seen_heap (Names object) leaving tasks grounds o)
-            refl o.calm o.settled restood e seen_after c may_touch may frugal touches typing)
+            refl o.calm o.settled restood (λ none q y departed. absurd (cc (none, going_so))) e seen_after c may_touch may frugal touches typing)
         body_begins (inr (inr (copies, tracks, own))) = absurd (none_copied copies)
 
         -- So it does as it is used.
@@ -362,14 +402,14 @@ module _
             let of_type : on.0 ≡ access = (let at = designated.1 in let is = designated.2 in let own = has.2 in cc (cell, at, is, own)) in
             rw (← of_type) (on.3)
 
-        -- The end of such an object uses none of its type.
-        uses_none : (implicit_of p).end_reaches access access ≡ false
-        uses_none = reaches_own_none p grounds.spares_own access accessed
+        -- The end of such an object uses none of those types.
+        uses_none : (t : ℕ) → has_gone types t ≡ true → (implicit_of p).end_reaches access t ≡ false
+        uses_none = are_here.spared.0
 
-        -- So the body and what it calls shun the type.
-        shunned : (apart : Apart) × AreApart p tds (λ t. access == t) apart × (body_shuns p.types (λ t. access == t) apart c.b ≡ true)
+        -- So the body and what it calls shun them.
+        shunned : (apart : Apart) × AreApart p tds (has_gone types) apart × (body_shuns p.types (has_gone types) apart c.b ≡ true)
         shunned =
-            finalize_shuns program grounds.well (in_use_here program a rest behind_it seen_heap (Names object) leaving tasks grounds o) access c.of c.operated.1.1 c.number access c.b operable overrides c.there uses_none
+            finalize_shuns program grounds.well (in_use_here program a rest behind_it seen_heap (Names object) leaving tasks grounds o) access c.of c.operated.1.1 c.number (has_gone types) c.b operable overrides c.there uses_none
 
         -- The real state behind the step.
         abbrev begun_in : List Object → State
@@ -382,40 +422,31 @@ module _
             let back : record seen_after { heap = after.heap } ≡ after = ap (λ (t : State). record t { heap = after.heap }) view_is in
             sym back ∙ ap (λ (t : State). record t { heap = after.heap }) c.is
 
-        -- The ghosts are there, of that type.
-        ghosts_there : (q : Id) → ghosts q ≡ true → IsOfShunned p.types (λ t. access == t) (object_at after.heap q)
+        -- The ghosts are there, of those types.
+        ghosts_there : (q : Id) → ghosts q ≡ true → IsOfShunned p.types (has_gone types) (object_at after.heap q)
         ghosts_there q is =
             let d = seen.departed q is in
             record {
               object = d.object;
               there = ghosts_stay real_taken e after does q is ∙ d.there;
-              shunned = rw d.of_access (eq_self access);
-              accessed = rw d.of_access accessed;
+              shunned = d.of_type;
+              accessed = are_here.accessed d.object.cell.access d.of_type;
             }
 
-        -- The collection is an item of the masters that are entered.
-        item_low : item < height s.masters
-        item_low =
-            let home : HasItem item access pool (items_of s.masters) = subst (λ (ms : List Master). HasItem item access pool (items_of ms)) (sym going.is) (inl (refl, (refl, refl))) in
-            let less = item_below item access pool (items_of s.masters) o.ready.1.0.1.stored.counted home in
-            let all = height_is s.masters in
-            omega (arith, less, all)
-
-        -- So it is the home of the ghosts.
+        -- None of them is in its collection.
         low : AreLow ghosts s.masters after.heap
-        low q x is found =
+        low q x is found listed =
             let d = seen.departed q is in
             let there = ghosts_stay real_taken e after does q is ∙ d.there in
             let same : d.object ≡ x = cc (there, found) in
-            let at : x.cell.home.item ≡ item = ap (λ (y : Object). y.cell.home.item) (sym same) ∙ d.at_home in
-            let less = item_low in
-            omega (arith, at, less)
+            let never = ap (λ (y : Object). y.listed) (sym same) ∙ d.unlisted in
+            absurd (cc (never, listed))
 
         -- So such a body runs there.
-        reaching : IsReaching p (λ t. access == t) shunned.0 ghosts none_unnamed c.behind s.masters after
+        reaching : IsReaching p (has_gone types) shunned.0 ghosts none_unnamed c.behind s.masters after
         reaching =
-            subst (IsReaching p (λ t. access == t) shunned.0 ghosts none_unnamed c.behind s.masters) (sym after_is)
-            (operation_reaches p (λ t. access == t) shunned.0 ghosts none_unnamed c.number c.b (Part c.o c.place) c.behind (record (running behind_it a rest seen_heap) { heap = after.heap }) c.there shunned.2
+            subst (IsReaching p (has_gone types) shunned.0 ghosts none_unnamed c.behind s.masters) (sym after_is)
+            (operation_reaches p (has_gone types) shunned.0 ghosts none_unnamed c.number c.b (Part c.o c.place) c.behind (record (running behind_it a rest seen_heap) { heap = after.heap }) c.there shunned.2
             ghosts_there (λ q is. absurd (cc is)) low (rw same_object plain))
 
         -- The object is of this collection, and is so still.
@@ -433,6 +464,7 @@ module _
         -- What is known then.
         operation_begins : InDeparting program s.heap e after
         operation_begins = departing_by e after does (inr (inr (record {
+          types = types;
           access = access;
           master = master;
           item = item;
@@ -449,11 +481,13 @@ module _
           behind = c.behind;
           is = behind_is;
           calm = calm_behind treater.program.types c.o c.of c.treatment c.tasks behind_it c.behind c.waits o.calm;
-          ahead = going.ahead;
           accessed = accessed;
           apart = shunned.0;
           are_apart = shunned.1;
           lower = s.masters;
+          going = going;
+          are = are;
+          here = here_still e after does;
           reaching = reaching;
           goes = runs_so;
         })))
@@ -503,8 +537,8 @@ module _
 
 -- The body of a Finalize has ended: what is left of the object is treated.
 module _
-    (program : Program) (a : Activation Value) (rest : List (Activation Value)) (s : State) (h : List Object) (access master item : ℕ) (pool : Option ℕ) (ghosts : Id → Bool)
-    (object : Id) (mode : Mode) (k : Control) (tasks : List Task) where
+    (program : Program) (a : Activation Value) (rest : List (Activation Value)) (s : State) (h : List Object) (types : List ℕ) (access master item : ℕ) (pool : Option ℕ)
+    (ghosts : Id → Bool) (object : Id) (mode : Mode) (k : Control) (tasks : List Task) where
   -- What is left of it.
   abbrev what_is_left : Control
   what_is_left = treating (Names object) (ends (Leaving master item)) tasks (ending object master item pool mode k)
@@ -515,25 +549,27 @@ module _
 
   -- So it goes on.
   confines_on :
-      (o : Ordinary program (confined_with (frame.Confines ∷ what_is_left) h)) → Seen access item pool ghosts (confined_with (frame.Confines ∷ what_is_left) s.heap) (confined_with (frame.Confines ∷ what_is_left) h)
-      → ghosts object ≡ false → HasAccess s.heap object access → IsGoing program access item pool s.masters
-      → GoesDeparting program (confined_with (frame.Confines ∷ what_is_left) s.heap) (next program.types.items (body_forms program) (confined_with (frame.Confines ∷ what_is_left) s.heap))
+      (o : Ordinary program (confined_with (frame.Confines ∷ what_is_left) h)) → Seen types item ghosts (confined_with (frame.Confines ∷ what_is_left) s.heap) (confined_with (frame.Confines ∷ what_is_left) h)
+      → ghosts object ≡ false → HasAccess s.heap object access → IsGoing program item (collection access pool) s.masters → AreGoneFrom program types s.masters
+      → AreOfItem item (collection access pool) ghosts s.heap → GoesDeparting program (confined_with (frame.Confines ∷ what_is_left) s.heap) (next program.types.items (body_forms program) (confined_with (frame.Confines ∷ what_is_left) s.heap))
   unfolding next
-  confines_on o seen plain has going =
+  confines_on o seen plain has going are here =
       let st = confines_fine (known_in program a.procedure o.suspensions) a rest (record s { heap = h }) what_is_left o.ready.1 in
       inl (record {
         body = inl (record {
-          access = access;
+          types = types;
           master = master;
           item = item;
-          pool = pool;
+          owned = collection access pool;
           ghosts = ghosts;
           v = confined_with what_is_left h;
           seen = record { alike = record { rest = refl; heaps = seen.alike.heaps }; departed = seen.departed };
           runs = refl;
           going = going;
+          are = are;
+          here = here;
           left = left_by tasks;
-          ordinary = record {
+          kept = kept_elsewhere program (confined_with what_is_left h) (record {
             suspensions = o.suspensions;
             ready = st.ready;
             stands = record {
@@ -544,40 +580,42 @@ module _
             };
             calm = o.calm;
             settled = o.settled;
-          };
+          }) (leaves_behind (Names object) (ends (Leaving master item)) tasks (Names object) (drop 1 (ending object master item pool mode k)));
         });
         alters = alters_same s.heap Quiet;
         says = tt;
         covers = λ depth act number at is. tt;
       })
     where
-      left_by : (left : List Task) → IsLeft access master item pool ghosts s.heap (treating (Names object) (ends (Leaving master item)) left (ending object master item pool mode k))
-      left_by [] = ended object mode k plain has
-      left_by (task ∷ left) = member_treated object (task ∷ left) mode k plain has
+      left_by : (left : List Task) → IsLeft (collection access pool) master item ghosts s.heap (treating (Names object) (ends (Leaving master item)) left (ending object master item pool mode k))
+      left_by [] = ended access pool object mode k refl plain has
+      left_by (task ∷ left) = member_treated access pool object (task ∷ left) mode k refl plain has
 
 -- What holds of the state that stands for the real one.
 pub between_grounds : (program : Program) (s : State) → Sound program s → (d : Between program s) → Grounds program d.v
 between_grounds program s sound d =
-    let home = newest_home d.access d.item d.going.number d.pool d.going.items d.going.outer s.masters d.going.is in
-    let calm : IsCalm (behind_call s.control) = subst (λ (k : Control). IsCalm (behind_call k)) (seen_control d.seen) d.ordinary.calm in
-    seen_grounds_between program d.seen (grounds program s sound) sound.reached d.master home d.runs d.left calm
+    let calm : IsCalm (behind_call s.control) = subst (λ (k : Control). IsCalm (behind_call k)) (seen_control d.seen) d.kept.ordinary.calm in
+    seen_grounds_between program d.seen (grounds program s sound) sound.reached d.owned d.master (words_out program s sound.reached) d.runs d.left calm
 
 -- A step where a member is treated, or where what is left of it comes next.
 treats_by :
-    (program : Program) (m : Mode) (c : Control) (acts : List (Activation Value)) (s : State) (h : List Object) (access master item : ℕ) (pool : Option ℕ) (ghosts : Id → Bool)
-    → m ≡ Running → IsLeft access master item pool ghosts s.heap c → departs_next true c ≡ false → Sound program (state_with m c acts s) → Grounds program (state_with m c acts (record s { heap = h }))
-    → Ordinary program (state_with m c acts (record s { heap = h })) → Seen access item pool ghosts (state_with m c acts s) (state_with m c acts (record s { heap = h })) → IsGoing program access item pool s.masters
+    (program : Program) (m : Mode) (c : Control) (acts : List (Activation Value)) (s : State) (h : List Object) (types : List ℕ) (master item : ℕ) (owned : Owned) (ghosts : Id → Bool)
+    → m ≡ Running → IsLeft owned master item ghosts s.heap c → departs_next true c ≡ false → Sound program (state_with m c acts s) → Grounds program (state_with m c acts (record s { heap = h }))
+    → Ordinary program (state_with m c acts (record s { heap = h })) → Seen types item ghosts (state_with m c acts s) (state_with m c acts (record s { heap = h }))
+    → IsGoing program item owned s.masters → AreGoneFrom program types s.masters → AreOfItem item owned ghosts s.heap
     → GoesDeparting program (state_with m c acts s) (next program.types.items (body_forms program) (state_with m c acts s))
-treats_by program (Raising e) c acts s h access master item pool ghosts runs left none sound grounds o seen going = absurd (cc runs)
-treats_by program Exiting c acts s h access master item pool ghosts runs left none sound grounds o seen going = absurd (cc runs)
-treats_by program Returning c acts s h access master item pool ghosts runs left none sound grounds o seen going = absurd (cc runs)
-treats_by program Running c [] s h access master item pool ghosts runs left none sound grounds o seen going = absurd (o.ready.0)
-treats_by program Running _ (a ∷ rest) s h access master item pool ghosts runs (next_member mode k) none sound grounds o seen going = absurd (cc none)
-treats_by program Running _ (a ∷ rest) s h access master item pool ghosts runs (member_treated object tasks mode k plain has) none sound grounds o seen going =
-    treats_on program a rest s h access master item pool ghosts object mode k tasks sound grounds o seen plain has going
-treats_by program Running _ (a ∷ rest) s h access master item pool ghosts runs (confined object tasks mode k plain has) none sound grounds o seen going =
-    confines_on program a rest s h access master item pool ghosts object mode k tasks o seen plain has going
-treats_by program Running _ (a ∷ rest) s h access master item pool ghosts runs (ended object mode k plain has) none sound grounds o seen going = absurd (cc none)
+treats_by program (Raising e) c acts s h types master item owned ghosts runs left none sound grounds o seen going are here = absurd (cc runs)
+treats_by program Exiting c acts s h types master item owned ghosts runs left none sound grounds o seen going are here = absurd (cc runs)
+treats_by program Returning c acts s h types master item owned ghosts runs left none sound grounds o seen going are here = absurd (cc runs)
+treats_by program Running c [] s h types master item owned ghosts runs left none sound grounds o seen going are here = absurd (o.ready.0)
+treats_by program Running _ (a ∷ rest) s h types master item owned ghosts runs (next_member mode k) none sound grounds o seen going are here = absurd (cc none)
+treats_by program Running _ (a ∷ rest) s h types master item owned ghosts runs (member_treated access pool object tasks mode k is plain has) none sound grounds o seen going are here =
+    treats_on program a rest s h types access master item pool ghosts object mode k tasks sound grounds o seen plain has
+    (subst (λ (what : Owned). IsGoing program item what s.masters) is going) are (subst (λ (what : Owned). AreOfItem item what ghosts s.heap) is here)
+treats_by program Running _ (a ∷ rest) s h types master item owned ghosts runs (confined access pool object tasks mode k is plain has) none sound grounds o seen going are here =
+    confines_on program a rest s h types access master item pool ghosts object mode k tasks o seen plain has
+    (subst (λ (what : Owned). IsGoing program item what s.masters) is going) are (subst (λ (what : Owned). AreOfItem item what ghosts s.heap) is here)
+treats_by program Running _ (a ∷ rest) s h types master item owned ghosts runs (ended access pool object mode k is plain has) none sound grounds o seen going are here = absurd (cc none)
 
 -- So it is in each state where no operation runs, and no member is taken or ends.
 pub treats_step :
@@ -585,5 +623,6 @@ pub treats_step :
     → GoesDeparting program s (next program.types.items (body_forms program) s)
 treats_step program s sound d none =
     let view_is : d.v ≡ record s { heap = d.v.heap } = d.seen.alike.rest in
-    treats_by program s.mode s.control s.activations s d.v.heap d.access d.master d.item d.pool d.ghosts d.runs d.left none sound
-    (subst (Grounds program) view_is (between_grounds program s sound d)) (subst (Ordinary program) view_is d.ordinary) (subst (Seen d.access d.item d.pool d.ghosts s) view_is d.seen) d.going
+    treats_by program s.mode s.control s.activations s d.v.heap d.types d.master d.item d.owned d.ghosts d.runs d.left none sound
+    (subst (Grounds program) view_is (between_grounds program s sound d)) (subst (Ordinary program) view_is d.kept.ordinary) (subst (Seen d.types d.item d.ghosts s) view_is d.seen)
+    d.going d.are d.here

@@ -1,6 +1,6 @@
 -- Objects end, their words go back, and masters are left.
 
-use Rattle.std.proofs.Common.{◌≡◌, ◌≢◌, ℕ, zero, suc, Bool, true, false, List, [], ◌∷◌, ◌++◌, refl, sym, ap, ◌∙◌, ◌⊎◌, inl, inr}
+use Rattle.std.proofs.Common.{◌≡◌, ◌≢◌, ℕ, zero, suc, ◌≤◌, Bool, true, false, List, [], ◌∷◌, ◌++◌, refl, sym, ap, ◌∙◌, ◌⊎◌, inl, inr}
 use Rattle.std.specs.Prelude.{Option, Some, None}
 use Rattle.std.proofs.lemmas.Bool.{eq-eqb}
 use Rattle.std.specs.List.{slice_set, slice_index_or}
@@ -10,6 +10,7 @@ use Rattle.ada_flow.specs.Flow.{Holds, is_among}
 use Rattle.ada_meaning.specs.declared.state.Id.{Id}
 use Rattle.ada_meaning.specs.declared.state.Value.{Value}
 use Rattle.ada_meaning.specs.declared.state.Value.TheVariants.{Null, Names, Scalar, Part}
+use Rattle.ada_meaning.specs.declared.state.Stage.{Stage}
 use Rattle.ada_meaning.specs.declared.state.Stage.TheVariants.{Gone}
 use Rattle.ada_meaning.specs.declared.state.Mode.{Mode}
 use Rattle.ada_meaning.specs.declared.state.Mode.TheVariants.{Running}
@@ -17,24 +18,25 @@ use Rattle.ada_meaning.specs.declared.event.Cause.{Cause}
 use Rattle.ada_meaning.specs.declared.event.Cause.TheVariants.{Leaving, Freeing, Assigning, Undoing}
 use Rattle.ada_meaning.specs.Frame.{Leaves, Ends, GivesBack, Clears, ClearsIn, Resumes, ends}
 use Rattle.ada_meaning.specs.Event.{Back, Left, Quiet}
-use Rattle.ada_meaning.specs.State.{Owned, declared, collection, record_object, storage_pool, Item, Master, Activation}
+use Rattle.ada_meaning.specs.State.{Owned, declared, collection, record_object, storage_pool, Item, Master, Activation, height}
 use Rattle.ada_meaning.specs.Step.{all_tasks, taken_out, told_back, end_next, back_next, members_next, item_leave_next, master_leave_next, leave_next}
 use Rattle.ada_meaning.specs.Named.{Object, State, object_at, look, lent, members, named, parted, finished, returned, filled, store}
 use Rattle.ada_meaning.specs.Run.{Event}
 use Rattle.ada_meaning.specs.Law.{leaving_by, LeavesHome, items_of}
 use Rattle.ada_owners.specs.Places.{is_there}
 use Rattle.ada_owners.proofs.Changes.{store_is}
+use Rattle.ada_owners.proofs.Kernel.{same_id}
 use Rattle.ada_owners.proofs.Objects.{at_other}
 use Rattle.ada_sound.proofs.Objects.{set_here, set_twice}
 use Rattle.ada_sound.proofs.Items.{Houses, newest_is}
 use Rattle.ada_sound.proofs.Homes.{same_one}
-use Rattle.ada_sound.proofs.Stored.{IsUnder, Stored, IsTaken, stored_part, stored_finish, stored_back, stored_shorter, stored_older, exists_out, none_is_left, taken_is}
+use Rattle.ada_sound.proofs.Stored.{IsUnder, Stored, IsTaken, stored_part, stored_finish, stored_back, stored_shorter, stored_older, listed_out, none_is_left, taken_is}
 use Rattle.ada_sound.proofs.Fits.{sparing, Fit, none_spared, weaker_fit, part_fit, finish_fit, back_fit, sparing_set, sparing_shorter, sparing_left, sparing_unnamed, same_unnamed}
 use Rattle.ada_sound.proofs.Alters.{alters_set}
-use Rattle.ada_sound.proofs.Invariant.{outers, below, Known, Control, Rooms, Roomed, OwnedAmong, NamesNone, RunsOn, Working, Parting, IsAside, Freed, IsOther, gone_in, FreesWell, IsNamedIn, UnderIs, IsHolder, Clearing, ClearsTo, LeavesTo, ResumesTo, Behind, ThenBack, Ending, EndingBy, Backing, BackingBy, ReadyIn, Stepped, Fine, innermost, departs, departs_next, UnderIsUnreferred}
+use Rattle.ada_sound.proofs.Invariant.{outers, below, Known, Control, Rooms, Roomed, OwnedAmong, NamesNone, RunsOn, Working, Parting, IsAside, Freed, IsOther, gone_in, FreesWell, IsNamedIn, UnderIs, IsHolder, Clearing, ClearsTo, LeavesTo, ResumesTo, Behind, ThenBack, Ending, EndingBy, Backing, BackingBy, ReadyIn, Stepped, Fine, innermost, departs, departs_next, NamesLow, UnderIsUnreferred}
 use Rattle.ada_sound.proofs.Ready.{running, at_work, stays, goes_ready, treats_ready}
 use Rattle.ada_sound.proofs.Taken.{stored_after}
-use Rattle.ada_sound.proofs.Leavings.{AreInOrder, NamedBelow, HeldIn, stays_ordered, taken_unnamed, taken_unreferred}
+use Rattle.ada_sound.proofs.Leavings.{GoesWell, NamedBelow, HeldIn, taken_unnamed, taken_unreferred}
 
 -- What is stored in one object stays where another one changes.
 pub swapped : {X : Type 0} (xs : List X) (i j : ℕ) (x y : X) → i ≢ j → slice_set (slice_set xs i x) j y ≡ slice_set (slice_set xs j y) i x
@@ -69,9 +71,9 @@ abbrev pub KeepsNamed : Known → Id → Object → (under after : Option Id) �
 KeepsNamed known o y under after heap places = KeepsFit known o y heap places × (UnderIsUnreferred known under → UnderIsUnreferred known after)
 
 -- Nothing relies on an object under way, where homes stay as they are.
-aside_going : (known : Known) (heap : List Object) (items : List Item) (o : Id) (x y : Object) → object_at heap o ≡ Some x → y.cell.home ≡ x.cell.home → (places : List Value) (holds : Holds) (under : Option Id) → IsAside known (sparing known.ahead heap items) (slice_set heap o.0 y) places holds under → IsAside known (sparing known.ahead (slice_set heap o.0 y) items) (slice_set heap o.0 y) places holds under
-aside_going known heap items o x y found same places holds None aside = tt
-aside_going known heap items o x y found same places holds (Some p) aside = (sparing_unnamed known.ahead (outers known) heap items o x y found same places holds p aside.0, aside.1)
+aside_going : (known : Known) (heap : List Object) (items : List Item) (o : Id) (x y : Object) → object_at heap o ≡ Some x → y.cell.home ≡ x.cell.home → (is_there y.stage ≡ true → y.out ≡ x.out) → (places : List Value) (holds : Holds) (under : Option Id) → IsAside known (sparing known.ahead heap items) (slice_set heap o.0 y) places holds under → IsAside known (sparing known.ahead (slice_set heap o.0 y) items) (slice_set heap o.0 y) places holds under
+aside_going known heap items o x y found same outs places holds None aside = tt
+aside_going known heap items o x y found same outs places holds (Some p) aside = (sparing_unnamed known.ahead (outers known) heap items o x y found same outs places holds p aside.0, aside.1)
 
 -- What holds where an object is gone holds still once it has changed before.
 pub gone_still : (heap : List Object) (o : Id) (x y : Object) → object_at heap o ≡ Some x → (P : List Object → Type 0) → (P (slice_set heap o.0 (finished x)) → P (slice_set heap o.0 (finished y))) → P (gone_in (Some o) heap) → P (gone_in (Some o) (slice_set heap o.0 y))
@@ -79,11 +81,11 @@ gone_still heap o x y found P on f =
     let still = set_here heap o.0 x y found in
     rw (still, set_twice heap o.0 y (finished y)) (on (rw found at f))
 
--- An object under way that changes stays of its type.
-pub under_set : (heap : List Object) (o : Id) (x y : Object) → object_at heap o ≡ Some x → y.cell.access ≡ x.cell.access → (access : ℕ) → UnderIs heap (Some o) access → UnderIs (slice_set heap o.0 y) (Some o) access
-under_set heap o x y found same access (z, there, of) =
+-- An object under way that changes stays of its type, and its words are out still.
+pub under_set : (heap : List Object) (o : Id) (x y : Object) → object_at heap o ≡ Some x → y.cell.access ≡ x.cell.access → y.out ≡ x.out → (access : ℕ) → UnderIs heap (Some o) access → UnderIs (slice_set heap o.0 y) (Some o) access
+under_set heap o x y found same outs access (z, there, of, out) =
     let one : z ≡ x = cc (there, found) in
-    (y, set_here heap o.0 x y found, same ∙ (rw one at of))
+    (y, set_here heap o.0 x y found, same ∙ (rw one at of), outs ∙ (rw one at out))
 
 -- So what its finalization may free stays the same, and a component that is freed names it still, and is of its type.
 pub frees_set : (known : Known) (heap : List Object) (o : Id) (x y : Object) → object_at heap o ≡ Some x → y.cell.access ≡ x.cell.access → (holds : Holds) → FreesWell known heap (Some o) holds → FreesWell known (slice_set heap o.0 y) (Some o) holds
@@ -135,7 +137,7 @@ HousesNone owned = (access : ℕ) (own : Option ℕ) → Houses owned access own
 
 module _ (known : Known) where
   -- What is behind an object under way stays so.
-  module _ (o : Id) (x y : Object) (heap : List Object) (found : object_at heap o ≡ Some x) (same : y.cell.home ≡ x.cell.home) (under after : Option Id) (others : (v : Value) → IsHolder heap v → IsOther v under → (v ≢ Names o) × IsOther v after)
+  module _ (o : Id) (x y : Object) (heap : List Object) (found : object_at heap o ≡ Some x) (same : y.cell.home ≡ x.cell.home) (outs : is_there y.stage ≡ true → y.out ≡ x.out) (under after : Option Id) (others : (v : Value) → IsHolder heap v → IsOther v under → (v ≢ Names o) × IsOther v after)
       (keeps : (objects : List Object) (places : List Value) → object_at objects o ≡ Some x → KeepsAside known o y under after objects places)
       (goes : (spared : Id → Bool) (places : List Value) (holds : Holds) → Fit known.program.types known.program.variables (outers known) spared (gone_in under heap) places holds → Fit known.program.types known.program.variables (outers known) spared (gone_in after (slice_set heap o.0 y)) places holds)
       (remains : (access : ℕ) → UnderIs heap under access → UnderIs (slice_set heap o.0 y) after access)
@@ -172,6 +174,17 @@ module _ (known : Known) where
     clears_set places ms (ClearsIn h c ∷ k) r = holder_set h c places ms k r
     clears_set places ms (f ∷ k) c = absurd c
 
+    -- What variables are relied on to name has its home where it had.
+    low_set : (places : List Value) (ms : List Master) (holds : Holds) → NamesLow heap places ms holds → NamesLow (slice_set heap o.0 y) places ms holds
+    low_set places ms holds low z p object relied names at = by (same_id p o)
+      where
+        by : (p ≡ o) ⊎ (p ≢ o) → suc object.cell.home.item ≤ height ms
+        by (inl here) =
+            let set = set_here heap o.0 x y found in
+            let one : object ≡ y = cc (rw here at at, set) in
+            rw (one, same) (low z p x relied names (rw here found))
+        by (inr other) = low z p object relied names (sym (at_other heap o p y other) ∙ at)
+
     leaves_set : (places : List Value) (ms : List Master) (k : Control) → (departs known.ahead (innermost ms) ≡ true → KeepsNamed known o y under after heap places) → LeavesTo known under heap places ms k → LeavesTo known after (slice_set heap o.0 y) places ms k
     leaves_set places ms [] named c = absurd c
     leaves_set places ms (Leaves mode ∷ k) named (inl (stays_so, c)) =
@@ -182,8 +195,8 @@ module _ (known : Known) where
             rooms = c.rooms;
             holds = c.holds;
             roomed = c.roomed;
-            fit = sparing_set known.ahead (outers known) heap (innermost ms) o x y found same kept.0;
-            aside = aside_going known heap (innermost ms) o x y found same places c.holds after kept.1;
+            fit = sparing_set known.ahead (outers known) heap (innermost ms) o x y found same outs kept.0;
+            aside = aside_going known heap (innermost ms) o x y found same outs places c.holds after kept.1;
             rest = c.rest;
           },
         )
@@ -196,9 +209,9 @@ module _ (known : Known) where
             rooms = c.rooms;
             holds = c.holds;
             roomed = c.roomed;
-            fit = sparing_set known.ahead (outers known) heap (innermost ms) o x y found same (kept.0 (sparing known.ahead heap (innermost ms)) c.holds c.fit);
+            fit = sparing_set known.ahead (outers known) heap (innermost ms) o x y found same outs (kept.0 (sparing known.ahead heap (innermost ms)) c.holds c.fit);
             aside = tt;
-            rest = c.rest;
+            rest = (c.rest.0, low_set places ms c.holds c.rest.1);
           },
         )
     leaves_set places ms (f ∷ k) named c = absurd c
@@ -229,11 +242,11 @@ module _ (known : Known) where
           object = finished e.object;
           found = set_here s.heap o.0 e.object (finished e.object) e.found;
           gone = refl;
-          out = exists_out o e.object e.found e.exists e.stored;
+          out = e.out;
           own = b.1;
           stored = stored_finish o e.object e.found e.stored;
           covered = e.covered;
-          rest = behind_set o e.object (finished e.object) s.heap e.found refl (Some o) None (λ v holder other. (other, tt))
+          rest = behind_set o e.object (finished e.object) s.heap e.found refl (λ there. refl) (Some o) None (λ v holder other. (other, tt))
               (λ objects places at spared holds f aside. (finish_fit o e.object at aside.0 aside.1 f, tt))
               (λ spared places holds f. rw e.found at f) (λ access is. tt) (λ holds well. tt) (λ v c holder other named. tt) cause e.object.cell.home.item a.places s.masters k
               (λ m item leaves going. (let never : departs known.ahead (innermost s.masters) ≡ false = rw leaves at stays_so in absurd (cc (never, going)))) b.2;
@@ -267,7 +280,8 @@ module _ (known : Known) where
       left_ready : (k : Control) → LeavesTo known None heap a.places s.masters k → ReadyIn known Running k heap a.places a.operands s.masters
       left_ready [] c = absurd c
       left_ready (Leaves mode ∷ k) (inl (stays_so, c)) = freed_parts stored c
-      left_ready (Leaves mode ∷ k) (inr (going, unreferred, c)) = freed_parts stored c
+      left_ready (Leaves mode ∷ k) (inr (going, unreferred, c)) =
+          record { rooms = c.rooms; holds = c.holds; stored = stored; roomed = c.roomed; fit = c.fit; rest = c.rest.0 }
       left_ready (f ∷ k) c = absurd c
 
       resumed_ready : (k : Control) → ResumesTo known None heap a.places s.masters k → ReadyIn known Running k heap a.places a.operands s.masters
@@ -288,13 +302,17 @@ module _ (known : Known) where
     leaves_home (Assigning number) o x k b = tt
     leaves_home (Undoing number) o x k b = tt
 
+    -- What is gone is not there.
+    gone_is_nowhere : {X : Type 0} (stage : Stage) → stage ≡ Gone → is_there stage ≡ true → X
+    gone_is_nowhere stage gone there = let nowhere : is_there Gone ≡ true = rw gone at there in absurd (cc nowhere)
+
     back_object : (o : Id) (cause : Cause) (pool : Option ℕ) (k : Control) (b : Backing known o cause pool k s.heap a.places s.masters) → Stepped known s.heap (Back (Names o) b.object.cell.access b.object.cell.number b.object.cell.home.pool b.object.cell.home.subpool cause) (record (running k a rest s) { heap = slice_set s.heap o.0 (returned b.object) })
     back_object o cause pool k b =
         record {
           ready = (
             tt,
             behind_ready (slice_set s.heap o.0 (returned b.object)) (stored_back o b.object b.found b.gone b.stored) cause b.object.cell.home.item k
-                (behind_set o b.object (returned b.object) s.heap b.found refl None None (λ v holder other. (λ is. gone_holder s.heap v o b.object is b.found b.gone holder, tt))
+                (behind_set o b.object (returned b.object) s.heap b.found refl (gone_is_nowhere b.object.stage b.gone) None None (λ v holder other. (λ is. gone_holder s.heap v o b.object is b.found b.gone holder, tt))
                 (λ objects places at spared holds f aside. (back_fit o b.object at f, tt)) (λ spared places holds f. back_fit o b.object b.found f) (λ access is. tt) (λ holds well. tt) (λ v c holder other named. tt) cause b.object.cell.home.item a.places s.masters k
                 (λ m item leaves going. ((λ spared holds f. back_fit o b.object b.found f), λ none. tt)) b.rest),
           );
@@ -340,22 +358,23 @@ module _ (known : Known) where
     none_owned item items access pool (gone ∷ rooms) holds owns roomed r = (gone.types, r.0, among_by item.owned access pool gone.types owns roomed.0.0)
 
     -- A member is taken: its parts are finalized first.
-    taken_fine : (item : Item) (items : List Item) (pool : Option ℕ) (v : Value) → HousesFrom item.owned pool → Left_with (item ∷ items) → HeldIn s.heap (record { number = number; items = item ∷ items } ∷ ms) → NamedBelow (outers known) s.heap (record { number = number; items = item ∷ items } ∷ ms) → departs known.ahead (item ∷ items) ≡ false → AreInOrder known.ahead known.program.types (item ∷ items) → IsTaken item.number s.heap v → Stepped known s.heap Quiet (taken_out named types (Leaving number item.number) pool v (look s.heap v) (left_with (item ∷ items)))
+    taken_fine : (item : Item) (items : List Item) (pool : Option ℕ) (v : Value) → HousesFrom item.owned pool → Left_with (item ∷ items) → HeldIn s.heap (record { number = number; items = item ∷ items } ∷ ms) → NamedBelow (outers known) s.heap (record { number = number; items = item ∷ items } ∷ ms) → departs known.ahead (item ∷ items) ≡ false → GoesWell known.program.types s.heap (item ∷ items) → IsTaken item.number s.heap v → Stepped known s.heap Quiet (taken_out named types (Leaving number item.number) pool v (look s.heap v) (left_with (item ∷ items)))
     unfolding left_with Left_with
-    taken_fine item items pool v from w held low stays_so order (o, is, member) =
+    taken_fine item items pool v from w held low stays_so well (o, is, member) =
         let x = member.object in
         let sane = w.stored.sane o x member.found in
         let exists = sane.listed_exists member.listed in
         let there : is_there x.stage ≡ true = rw exists refl in
-        let type = newest_is x.cell.home.item x.cell.access x.cell.home.pool item (items ++ items_of ms) member.home w.stored.counted (sane.housed (exists_out o x member.found exists w.stored)) in
+        let out = listed_out o x member.found member.listed w.stored in
+        let type = newest_is x.cell.home.item x.cell.access x.cell.home.pool item (items ++ items_of ms) member.home w.stored.counted (sane.housed out) in
         let none = none_owned item items x.cell.access x.cell.home.pool w.rooms w.holds type w.roomed w.rest in
-        let ordered = stays_ordered known.ahead known.program.types item items stays_so order x.cell.access x.cell.home.pool type in
-        let unnamed = taken_unnamed known.ahead known.program.types known.program.variables (outers known) s.heap a.places w.holds number item items ms none.0 w.fit (outers known).under w.stored none.1 held low o x member.found there member.home none.2 ordered in
-        let unreferred = taken_unreferred known.ahead known.program.types known.program.variables (outers known) s.heap a.places w.holds number item items ms none.0 w.fit (outers known).under w.stored none.1 held low o x member.found there member.home none.2 ordered in
+        let unnamed = taken_unnamed known.ahead known.program.types known.program.variables (outers known) s.heap a.places w.holds number item items ms none.0 w.fit none.1 held low o x member.found there out member.home none.2 type stays_so well in
+        let unreferred = taken_unreferred known.ahead known.program.types known.program.variables (outers known) s.heap a.places w.holds number item items ms none.0 w.fit none.1 held low o x member.found there out member.home none.2 type stays_so well in
         let under : Ending known o (GivesBack (Names o) (Leaving number item.number) pool ∷ Leaves mode ∷ k) (slice_set s.heap o.0 (parted x)) a.places (record { number = number; items = item ∷ items } ∷ ms) = record {
           object = parted x;
           found = set_here s.heap o.0 x (parted x) member.found;
           exists = exists;
+          out = out;
           parted = refl;
           stored = stored_part o x member.found w.stored;
           covered = tt;
@@ -371,8 +390,8 @@ module _ (known : Known) where
                   rooms = w.rooms;
                   holds = w.holds;
                   roomed = w.roomed;
-                  fit = sparing_set known.ahead (outers known) s.heap (item ∷ items) o x (parted x) member.found refl (part_fit o x member.found w.fit);
-                  aside = aside_going known s.heap (item ∷ items) o x (parted x) member.found refl a.places w.holds (Some o)
+                  fit = sparing_set known.ahead (outers known) s.heap (item ∷ items) o x (parted x) member.found refl (λ at. refl) (part_fit o x member.found w.fit);
+                  aside = aside_going known s.heap (item ∷ items) o x (parted x) member.found refl (λ at. refl) a.places w.holds (Some o)
                       (same_unnamed s.heap o x member.found o unnamed (parted x) refl (λ c. refl), unreferred);
                   rest = w.rest;
                 },
@@ -401,42 +420,42 @@ module _ (known : Known) where
       record {
         rooms = w.rooms;
         holds = w.holds;
-        stored = stored_shorter (record { number = number; items = [] }) item items ms (λ o x under found home. low.2 o x under found (rw (eq-eqb item.number x.cell.home.item (sym home)) refl)) (λ o x found listed is home. none o x found listed home) w.stored;
+        stored = stored_shorter (record { number = number; items = [] }) item items ms (λ o x under found out home. low.2 o x under found out (rw (eq-eqb item.number x.cell.home.item (sym home)) refl)) (λ o x found listed is home. none o x found listed home) w.stored;
         roomed = roomed_shorter item items w.rooms w.holds w.rest w.roomed;
         fit = sparing_shorter known.ahead item items gone w.fit;
         rest = w.rest;
       },
     ) tt
       where
-        by : (o : Id) (x : Object) → object_at s.heap o ≡ Some x → x.cell.home.item ≡ item.number → (x.listed ≡ true) ⊎ IsUnder (outers known).under o → ⊥
-        by o x found home (inl listed) = none o x found listed home
-        by o x found home (inr under) = low.2 o x under found (rw (eq-eqb item.number x.cell.home.item (sym home)) refl)
+        by : (o : Id) (x : Object) → object_at s.heap o ≡ Some x → x.out ≡ true → x.cell.home.item ≡ item.number → (x.listed ≡ true) ⊎ IsUnder (outers known).under o → ⊥
+        by o x found out home (inl listed) = none o x found listed home
+        by o x found out home (inr under) = low.2 o x under found out (rw (eq-eqb item.number x.cell.home.item (sym home)) refl)
 
-        gone : (o : Id) (x : Object) → object_at s.heap o ≡ Some x → is_there x.stage ≡ true → x.cell.home.item ≡ item.number → ⊥
-        gone o x found there home =
+        gone : (o : Id) (x : Object) → object_at s.heap o ≡ Some x → is_there x.stage ≡ true → x.out ≡ true → x.cell.home.item ≡ item.number → ⊥
+        gone o x found there out home =
             let sane = w.stored.sane o x found in
-            by o x found home (sane.out_listed (exists_out o x found (sane.there_exists there) w.stored))
+            by o x found out home (sane.out_listed out)
 
     -- A variable or a pool is the home of no object.
     has_none : (item : Item) (items : List Item) → HousesNone item.owned → Left_with (item ∷ items) → (o : Id) (x : Object) → object_at s.heap o ≡ Some x → x.listed ≡ true → x.cell.home.item ≡ item.number → ⊥
     unfolding Left_with
     has_none item items none w o x found listed home =
         let sane = w.stored.sane o x found in
-        let exists = sane.listed_exists listed in
-        let type = newest_is x.cell.home.item x.cell.access x.cell.home.pool item (items ++ items_of ms) home w.stored.counted (sane.housed (exists_out o x found exists w.stored)) in
+        let out = listed_out o x found listed w.stored in
+        let type = newest_is x.cell.home.item x.cell.access x.cell.home.pool item (items ++ items_of ms) home w.stored.counted (sane.housed out) in
         none x.cell.access x.cell.home.pool type
 
-    members_fine : (item : Item) (items : List Item) (pool : Option ℕ) (vs : List Value) → HousesFrom item.owned pool → members s.heap item.number ≡ vs → Left_with (item ∷ items) → HeldIn s.heap (record { number = number; items = item ∷ items } ∷ ms) → NamedBelow (outers known) s.heap (record { number = number; items = item ∷ items } ∷ ms) → departs known.ahead (item ∷ items) ≡ false → AreInOrder known.ahead known.program.types (item ∷ items) → Fine known s.heap (record { number = number; items = item ∷ items } ∷ ms) (members_next named types (Leaving number item.number) pool vs (left_with (item ∷ items)))
+    members_fine : (item : Item) (items : List Item) (pool : Option ℕ) (vs : List Value) → HousesFrom item.owned pool → members s.heap item.number ≡ vs → Left_with (item ∷ items) → HeldIn s.heap (record { number = number; items = item ∷ items } ∷ ms) → NamedBelow (outers known) s.heap (record { number = number; items = item ∷ items } ∷ ms) → departs known.ahead (item ∷ items) ≡ false → GoesWell known.program.types s.heap (item ∷ items) → Fine known s.heap (record { number = number; items = item ∷ items } ∷ ms) (members_next named types (Leaving number item.number) pool vs (left_with (item ∷ items)))
     unfolding left_with Left_with
-    members_fine item items pool [] owns e w held low stays_so order = shorter_fine item items low (λ o x found listed home. none_is_left item.number s.heap o x e found listed home) w
-    members_fine item items pool (v ∷ vs) owns e w held low stays_so order = λ i lt. taken_fine item items pool (slice_index_or (v ∷ vs) i Null) owns w held low stays_so order (rw e at (taken_is item.number s.heap i (rw e lt)))
+    members_fine item items pool [] owns e w held low stays_so well = shorter_fine item items low (λ o x found listed home. none_is_left item.number s.heap o x e found listed home) w
+    members_fine item items pool (v ∷ vs) owns e w held low stays_so well = λ i lt. taken_fine item items pool (slice_index_or (v ∷ vs) i Null) owns w held low stays_so well (rw e at (taken_is item.number s.heap i (rw e lt)))
 
-    item_fine : (item : Item) (items : List Item) (what : Owned) → item.owned ≡ what → Left_with (item ∷ items) → HeldIn s.heap (record { number = number; items = item ∷ items } ∷ ms) → NamedBelow (outers known) s.heap (record { number = number; items = item ∷ items } ∷ ms) → departs known.ahead (item ∷ items) ≡ false → AreInOrder known.ahead known.program.types (item ∷ items) → Fine known s.heap (record { number = number; items = item ∷ items } ∷ ms) (item_leave_next named types number item what (left_with (item ∷ items)))
+    item_fine : (item : Item) (items : List Item) (what : Owned) → item.owned ≡ what → Left_with (item ∷ items) → HeldIn s.heap (record { number = number; items = item ∷ items } ∷ ms) → NamedBelow (outers known) s.heap (record { number = number; items = item ∷ items } ∷ ms) → departs known.ahead (item ∷ items) ≡ false → GoesWell known.program.types s.heap (item ∷ items) → Fine known s.heap (record { number = number; items = item ∷ items } ∷ ms) (item_leave_next named types number item what (left_with (item ∷ items)))
     unfolding left_with Left_with
-    item_fine item items (declared y) is w held low stays_so order = shorter_fine item items low (has_none item items (λ t own h. rw is at h) w) w
-    item_fine item items (storage_pool declaration pool) is w held low stays_so order = shorter_fine item items low (has_none item items (λ t own h. rw is at h) w) w
-    item_fine item items (collection access pool) is w held low stays_so order = members_fine item items pool (members s.heap item.number) (λ t own h. (let houses : Houses (collection access pool) t own = rw is at h in houses.1)) refl w held low stays_so order
-    item_fine item items (record_object t) is w held low stays_so order = members_fine item items None (members s.heap item.number) (λ u own h. (let houses : Houses (record_object t) u own = rw is at h in houses.1)) refl w held low stays_so order
+    item_fine item items (declared y) is w held low stays_so well = shorter_fine item items low (has_none item items (λ t own h. rw is at h) w) w
+    item_fine item items (storage_pool declaration pool) is w held low stays_so well = shorter_fine item items low (has_none item items (λ t own h. rw is at h) w) w
+    item_fine item items (collection access pool) is w held low stays_so well = members_fine item items pool (members s.heap item.number) (λ t own h. (let houses : Houses (collection access pool) t own = rw is at h in houses.1)) refl w held low stays_so well
+    item_fine item items (record_object t) is w held low stays_so well = members_fine item items None (members s.heap item.number) (λ u own h. (let houses : Houses (record_object t) u own = rw is at h in houses.1)) refl w held low stays_so well
 
     -- The master is left.
     gone_ready : (rooms : Rooms) (holds : Holds) → Stored (outers known).under s.heap (record { number = number; items = [] } ∷ ms) → Fit known.program.types known.program.variables (outers known) none_spared s.heap a.places holds → Roomed (below known) (record { number = number; items = [] } ∷ ms) rooms → RunsOn known (Leaves mode ∷ k) rooms holds → ReadyIn known mode k s.heap a.places a.operands ms
@@ -445,15 +464,15 @@ module _ (known : Known) where
         goes_ready known mode k s.heap a.places a.operands ms
         (record { rooms = rooms; holds = r.2.0; stored = stored_older (record { number = number; items = [] }) ms stored; roomed = roomed.1; fit = weaker_fit r.2.0 r.2.1 fit; rest = r.2.2 })
 
-    master_fine : (items : List Item) → Left_with items → HeldIn s.heap (record { number = number; items = items } ∷ ms) → NamedBelow (outers known) s.heap (record { number = number; items = items } ∷ ms) → departs known.ahead items ≡ false → AreInOrder known.ahead known.program.types items → Fine known s.heap (record { number = number; items = items } ∷ ms) (master_leave_next named types mode number items (record (running k a rest s) { masters = record { number = number; items = items } ∷ ms }))
+    master_fine : (items : List Item) → Left_with items → HeldIn s.heap (record { number = number; items = items } ∷ ms) → NamedBelow (outers known) s.heap (record { number = number; items = items } ∷ ms) → departs known.ahead items ≡ false → GoesWell known.program.types s.heap items → Fine known s.heap (record { number = number; items = items } ∷ ms) (master_leave_next named types mode number items (record (running k a rest s) { masters = record { number = number; items = items } ∷ ms }))
     unfolding left_with Left_with
-    master_fine [] w held low stays_so order = stays known (Left number) _ (tt, gone_ready w.rooms w.holds w.stored (sparing_left known.ahead w.fit) w.roomed w.rest) tt
-    master_fine (item ∷ items) w held low stays_so order = item_fine item items item.owned refl w held low stays_so order
+    master_fine [] w held low stays_so well = stays known (Left number) _ (tt, gone_ready w.rooms w.holds w.stored (sparing_left known.ahead w.fit) w.roomed w.rest) tt
+    master_fine (item ∷ items) w held low stays_so well = item_fine item items item.owned refl w held low stays_so well
 
-    pub left_fine : (items : List Item) → Parting known s.heap a.places (record { number = number; items = items } ∷ ms) (RunsOn known (Leaves mode ∷ k)) → HeldIn s.heap (record { number = number; items = items } ∷ ms) → NamedBelow (outers known) s.heap (record { number = number; items = items } ∷ ms) → departs known.ahead items ≡ false → AreInOrder known.ahead known.program.types items → Fine known s.heap (record { number = number; items = items } ∷ ms) (master_leave_next named types mode number items (record (running k a rest s) { masters = record { number = number; items = items } ∷ ms }))
+    pub left_fine : (items : List Item) → Parting known s.heap a.places (record { number = number; items = items } ∷ ms) (RunsOn known (Leaves mode ∷ k)) → HeldIn s.heap (record { number = number; items = items } ∷ ms) → NamedBelow (outers known) s.heap (record { number = number; items = items } ∷ ms) → departs known.ahead items ≡ false → GoesWell known.program.types s.heap items → Fine known s.heap (record { number = number; items = items } ∷ ms) (master_leave_next named types mode number items (record (running k a rest s) { masters = record { number = number; items = items } ∷ ms }))
     unfolding left_with Left_with
-    left_fine items w held low stays_so order = master_fine items w held low stays_so order
+    left_fine items w held low stays_so well = master_fine items w held low stays_so well
 
-  pub leave_fine : (types : List TypeDefinition) (mode : Mode) (k : Control) (a : Activation Value) (rest : List (Activation Value)) (s : State) (ms : List Master) → Parting known s.heap a.places ms (RunsOn known (Leaves mode ∷ k)) → HeldIn s.heap ms → NamedBelow (outers known) s.heap ms → departs known.ahead (innermost ms) ≡ false → AreInOrder known.ahead known.program.types (innermost ms) → Fine known s.heap ms (leave_next named types mode ms (record (running k a rest s) { masters = ms }))
-  leave_fine types mode k a rest s [] w held low stays_so order = tt
-  leave_fine types mode k a rest s (m ∷ ms) w held low stays_so order = left_fine types mode k a rest s m.number ms m.items w held low stays_so order
+  pub leave_fine : (types : List TypeDefinition) (mode : Mode) (k : Control) (a : Activation Value) (rest : List (Activation Value)) (s : State) (ms : List Master) → Parting known s.heap a.places ms (RunsOn known (Leaves mode ∷ k)) → HeldIn s.heap ms → NamedBelow (outers known) s.heap ms → departs known.ahead (innermost ms) ≡ false → GoesWell known.program.types s.heap (innermost ms) → Fine known s.heap ms (leave_next named types mode ms (record (running k a rest s) { masters = ms }))
+  leave_fine types mode k a rest s [] w held low stays_so well = tt
+  leave_fine types mode k a rest s (m ∷ ms) w held low stays_so well = left_fine types mode k a rest s m.number ms m.items w held low stays_so well

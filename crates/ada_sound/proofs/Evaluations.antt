@@ -44,7 +44,7 @@ use Rattle.ada_sound.proofs.Copied.{default_item, items_keep}
 use Rattle.ada_sound.proofs.Gathered.{BareItems}
 use Rattle.ada_sound.proofs.Defaults.{defaults_fit, defaults_raise, defaults_move, defaults_keep, defaults_bare, fill_defaults, DefaultFor, default_for, Reaches}
 use Rattle.ada_sound.proofs.Values.{read_other}
-use Rattle.ada_sound.proofs.Stored.{Stored, exists_out, stored_owning}
+use Rattle.ada_sound.proofs.Stored.{Stored, stored_owning}
 use Rattle.ada_sound.proofs.Fits.{Fit, MayFollow, names_object, is_object, component_value, component_access, none_spared, place_at, put_null, put_alias, access_is, component_is, component_follows, take_variable, take_component, ArePlain, plain_object}
 use Rattle.ada_sound.proofs.Begins.{component_opened, root_at, root_access, root_follows}
 use Rattle.ada_sound.proofs.Invariant.{assignment_among, outers, below, HasRoom, Known, Control, Rooms, Roomed, Accepts, AwaitsIn, LeadsTo, GoesInto, Allocating, Clearing, component_among, StoringIn, Pairs, IsAlone, IsOne, Half, HalfBy, IsCleared, front, final, WalksOn, Goes, GoesTo, Initializes, Raised, RaisesAfter, RunsAfter, RunsOn, Spares, NoneBroken, StartsTo, To, MayRaise, RaisesAt, FillsIn, IsHolder, Takes, Computing, Working, Resumes, EvaluatesTo, Awaits, FindsFor, MovesOn, FillsOn, PassesOn, PassesTo, FollowsFor, HalfFollows, ReadyIn, Stepped, Fine, ways, begun, along}
@@ -310,12 +310,12 @@ module _ (known : Known) (k : Control) (a : Activation Value) (rest : List (Acti
     moved_on u o object c [] v from to kinds found listed at own leads fits walks w raise =
         stays known (Followed (Names o)) (running k (record a { operands = v ∷ below }) rest s)
         (tt, at_last o object c v from to kinds found listed at own leads fits walks w)
-        (record { id = o; object = object; is = refl; found = found; out = exists_out o object found ((w.stored.sane o object found).there_exists listed) w.stored })
+        (record { id = o; object = object; is = refl; found = found; there = listed })
     moved_on u o object c (d ∷ ds) v from to kinds found listed at own leads fits walks w raise =
         let seen : walk s.heap (Names o) (c ∷ front (d ∷ ds)) ≡ walk s.heap v (front (d ∷ ds)) = walk_on s.heap o object c (front (d ∷ ds)) v found ((w.stored.sane o object found).there_exists listed) at in
         stays known (Followed (Names o)) (running (Follows (d ∷ ds) ∷ k) (record a { operands = v ∷ below }) rest s)
         (tt, inl (at_work w (component_follows o object c v refl found listed at w.fit, inr ((λ may. raise), inr (inl (at_path whole root cs spot, (walks.0 ∙ seen, walks.1), w.rest))))))
-        (record { id = o; object = object; is = refl; found = found; out = exists_out o object found ((w.stored.sane o object found).there_exists listed) w.stored })
+        (record { id = o; object = object; is = refl; found = found; there = listed })
 
     moved_component : (u : Value) (o : Id) (object : Object) (c : ℕ) (ds : List ℕ) (found_value : Option Value) (from : Option VariableKind) (to : VariableKind) (kinds : List OperandKind) → slice_get object.cell.values c ≡ found_value → object_at s.heap o ≡ Some object → is_there object.stage ≡ true → access_of from ≡ Some object.cell.access → selectors_kind known.program.types from (c ∷ ds) ≡ Some to → typed.Fits known.program (cells_of s.heap) (of_kind to ∷ kinds) k → WalksOn s.heap a.places (at_path whole root cs spot) (Names o) (c ∷ ds) → (w : Working known s.heap a.places s.masters (Takes known s.heap a.places (value_of (at_path whole root cs spot)) k)) → RaisesAt known u ds k w.rooms w.holds → Fine known s.heap s.masters (component_next named (Names o) ds found_value (running k (record a { operands = below }) rest s))
     moved_component u o object c ds None from to kinds at found listed own leads fits walks w raise = tt

@@ -1,6 +1,6 @@
 -- A program that meets the premises of the laws, in which the Finalize of an object that a component frees declares a record object with a Finalize of its own.
 
-use Rattle.std.proofs.Common.{◌≡◌, ◌⊎◌, inr, true, false, List, [], ◌∷◌, ◌++◌, refl, arith}
+use Rattle.std.proofs.Common.{◌≡◌, ◌⊎◌, inr, true, List, [], ◌∷◌, ◌++◌, refl, arith}
 use Rattle.std.specs.Prelude.{Some, None}
 use Rattle.ada_program.specs.declared.program.Declaration.TheVariants as declaration
 use Rattle.ada_program.specs.declared.program.Expression.{Path as Reads}

@@ -39,9 +39,9 @@ use Rattle.ada_meaning.specs.declared.event.Halt.TheVariants.{Finished, Escaped,
 use Rattle.ada_meaning.specs.declared.event.Why.TheVariants.{FollowsGone, FinalizesTwice}
 use Rattle.ada_meaning.specs.Named.{next}
 use Rattle.ada_meaning.specs.Run.{Choice, grants, takes}
-use Rattle.ada_sound.specs.Always.{IsChecked, FinishesAfter, NotInUse, LetsSomeOut, UsesOwn, SparesHolders, SparesOwn, HaltsAfter}
-use Rattle.ada_sound.specs.OperationExamples.{count_operations, count_bodies, operating_declarations, operating_stmts, operating_handlers, operating_events, node_operations, two_nodes, freeing_finalize, freed_events, following_finalize, node_and_cell, following_events, escaping_operations, escaping_finalize, escaping_declarations, escaping_stmts, escaping_events, WouldRaise, unfinalized_events, unadjusted_operations, escaping_adjust, unadjusted_events}
-use Rattle.ada_sound.proofs.Choices.{accepted_in, never_frugal, does_in, not_in_use_in, lets_some_in, uses_own_in, spares_with, halts_after_in}
+use Rattle.ada_sound.specs.Always.{IsChecked, FinishesAfter, NotInUse, LetsSomeOut, UsesNewer, UsesOwn, HaltsAfter}
+use Rattle.ada_sound.specs.OperationExamples.{count_operations, count_bodies, operating_declarations, operating_stmts, operating_handlers, operating_events, node_operations, two_nodes, freeing_finalize, freed_events, following_finalize, node_and_cell, following_events, escaping_operations, escaping_finalize, escaping_declarations, escaping_stmts, escaping_events, renewing_finalize, renewing_events, WouldRaise, unfinalized_events, unadjusted_operations, escaping_adjust, unadjusted_events}
+use Rattle.ada_sound.proofs.Choices.{accepted_in, does_in, not_in_use_in, lets_some_in, uses_newer_in, uses_own_in, halts_after_in}
 use Rattle.ada_sound.proofs.Example.{steps, vec, no_name, spot, link, with_number}
 use Rattle.ada_sound.proofs.ExampleOwners.{record_of, access_to, an_integer, an_access, path, whole, part as component}
 use Rattle.ada_sound.proofs.ExampleRecords.{object, of_object, record_at, of_object_type}
@@ -270,18 +270,12 @@ following_bodies = simp (statement_rules, expression_rules)
 pub following_form : stmt_forms following ≡ node_and_cell
 following_form = simp statement_rules
 
-pub following_not_in_use : NotInUse following
+-- It follows values of the type of the cells, whose collection is newer than that of the nodes.
+pub following_uses_newer : UsesNewer following
 unfolding uses_in
-following_not_in_use =
-    not_in_use_in following (following_finalize ∷ []) node_and_cell no_handlers following_bodies following_form refl _ _ refl refl refl refl refl
-
--- It frees nothing.
-pub following_spares : SparesOwn following
-following_spares = spares_with following (following_finalize ∷ []) node_and_cell no_handlers following_bodies following_form refl true refl
-
--- And no Finalize may touch storage there, as far as that is asked.
-pub following_spares_holders : SparesHolders following
-following_spares_holders = never_frugal following (following_finalize ∷ []) node_and_cell no_handlers following_bodies following_form refl refl
+following_uses_newer =
+    uses_newer_in following (following_finalize ∷ []) node_and_cell no_handlers following_bodies following_form refl 1 4 refl refl refl _ _
+    refl refl refl refl refl refl refl
 
 -- Both objects are granted. The cell goes with its collection, and then the node is picked: its Finalize follows its component to the cell.
 pub follows_gone : HaltsAfter following_events (Erroneous FollowsGone) following
@@ -337,6 +331,46 @@ unfolding next
 escapes =
     halts_after_in escaping (escaping_finalize ∷ []) escaping_stmts no_handlers escaping_bodies escaping_form refl []
     (steps 7 ++ takes 0 ∷ steps 8) escaping_events (Escaped ConstraintError) refl refl refl
+
+-- D : Count; C := D;
+abbrev renewing_procedure : Procedure
+renewing_procedure =
+    record
+    (operation 2 (stmt.AssignRecord (record_at (object 0)) (vec (item.Record (record_at (object 1)) ∷ []) (omega arith)) ∷ []) (omega arith) [] (omega arith)) {
+      variables = vec (of_object_type 2 ∷ of_object_type 3 ∷ []) (omega arith);
+      declarations = vec (declaration.Record (record { 0 = 1 }) (record { 0 = 3 }) None ∷ []) (omega arith);
+    }
+
+-- X : Count; begin null; where Finalize does that
+abbrev pub renewing : Program
+renewing = record escaping {
+  types = vec (escaping_types escaping_operations ++ definition.Object (record { 0 = 0 }) ∷ []) (omega arith);
+  procedures = vec (renewing_procedure ∷ []) (omega arith);
+}
+
+pub renewing_overrides : operations_of renewing.types.items 0 ≡ escaping_operations
+renewing_overrides = refl
+
+pub renewing_bodies : body_forms renewing ≡ renewing_finalize ∷ []
+renewing_bodies = simp statement_rules
+
+pub renewing_declares : declaration_forms renewing ≡ escaping_declarations
+renewing_declares = refl
+
+pub renewing_form : stmt_forms renewing ≡ escaping_stmts
+renewing_form = simp statement_rules
+
+pub renewing_not_in_use : NotInUse renewing
+unfolding uses_in
+renewing_not_in_use =
+    not_in_use_in renewing (renewing_finalize ∷ []) escaping_stmts no_handlers renewing_bodies renewing_form refl _ _ refl refl refl refl refl refl
+
+-- X is picked at the leaving of the main procedure; in its Finalize it is to be finalized once more.
+pub renews : HaltsAfter renewing_events (Erroneous FinalizesTwice) renewing
+unfolding next
+renews =
+    halts_after_in renewing (renewing_finalize ∷ []) escaping_stmts no_handlers renewing_bodies renewing_form refl []
+    (steps 7 ++ takes 0 ∷ steps 10) renewing_events (Erroneous FinalizesTwice) refl refl refl
 
 -- begin null; where Finalize of Count raises Constraint_Error, and there is no X
 abbrev pub unfinalized : Program

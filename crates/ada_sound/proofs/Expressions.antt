@@ -27,7 +27,6 @@ use Rattle.ada_meaning.specs.Step.{moves, raised, reading, component_next, follo
 use Rattle.ada_meaning.specs.Named.{Object, State, object_at, look, named}
 use Rattle.ada_owners.specs.Places.{is_there}
 use Rattle.ada_sound.proofs.Fits.{MayFollow, place_at, component_follows}
-use Rattle.ada_sound.proofs.Stored.{exists_out}
 use Rattle.ada_sound.proofs.Roots.{root_object, object_there, raises_null, rest_raises}
 use Rattle.ada_sound.proofs.Begins.{root_follows}
 use Rattle.ada_sound.proofs.Invariant.{begun, along, Known, Control, Rooms, To, MayRaise, RaisesAt, Awaits, Computing, Working, Stepped, Fine, ways}
@@ -46,11 +45,11 @@ module _ (known : Known) (k : Control) (a : Activation Value) (rest : List (Acti
     read_fine u o object [] v found listed follows raise =
         stays known (Followed (Names o)) (running k (record a { operands = v ∷ below }) rest s)
         (tt, awaits_ready known k s.heap a.places v below s.masters w)
-        (record { id = o; object = object; is = refl; found = found; out = exists_out o object found ((w.stored.sane o object found).there_exists listed) w.stored })
+        (record { id = o; object = object; is = refl; found = found; there = listed })
     read_fine u o object (c ∷ cs) v found listed follows raise =
         stays known (Followed (Names o)) (running (Follows (c ∷ cs) ∷ k) (record a { operands = v ∷ below }) rest s)
         (tt, inl (at_work w (follows, inr ((λ may. raise), inl w.rest))))
-        (record { id = o; object = object; is = refl; found = found; out = exists_out o object found ((w.stored.sane o object found).there_exists listed) w.stored })
+        (record { id = o; object = object; is = refl; found = found; there = listed })
 
     -- A component of an object that is there is read.
     component_fine : (u : Value) (o : Id) (object : Object) (c : ℕ) (cs : List ℕ) (v : Option Value) → slice_get object.cell.values c ≡ v → object_at s.heap o ≡ Some object → is_there object.stage ≡ true → RaisesAt known u cs k w.rooms w.holds → Fine known s.heap s.masters (component_next named (Names o) cs v (running k (record a { operands = below }) rest s))

@@ -1,7 +1,7 @@
 -- What is relied on in a run: variables of the running activation by their holds, and components, which own what they hold.
 
 use Rattle.std.proofs.Common.{◌≡◌, ◌≢◌, ℕ, zero, suc, ◌+◌, Bool, true, false, List, [], ◌∷◌, ◌++◌, map, refl, sym, ap, ◌∙◌, ◌⊎◌, inl, inr}
-use Rattle.std.specs.Prelude.{Option, Some, None, ◌==◌, ◌||◌, if◌then◌else◌}
+use Rattle.std.specs.Prelude.{Option, Some, None, ◌==◌, ◌||◌, ◌&&◌, if◌then◌else◌}
 use Rattle.std.specs.List.{slice_get, slice_set, slice_index_or}
 use Rattle.std.proofs.lemmas.Bool.{eqb-true}
 use Rattle.ada_text.specs.declared.spot.Spot.{Spot}
@@ -145,30 +145,29 @@ bare_outer w = bare w.places
 abbrev pub stacked : List Value → Outsiders → List (Activation Value)
 stacked places outer = bare places ∷ map bare_outer outer.suspended
 
--- Nothing relies on the components of some objects: of none; or of those whose home is one of these items.
+-- Nothing relies on the components of some objects: of none; or of those whose words are out and whose home is one of these items.
 abbrev pub none_spared : Id → Bool
 none_spared o = false
 
 abbrev pub lies_among : Option Object → List Item → Bool
 lies_among None items = false
-lies_among (Some x) items = is_number_of items x.cell.home.item
+lies_among (Some x) items = x.out && is_number_of items x.cell.home.item
 
 abbrev pub going : List Object → List Item → Id → Bool
 going heap items o = lies_among (object_at heap o) items
 
--- The newest items of a master, in front of the first one for whose objects an operation may be called that touches storage.
-abbrev pub in_front : (ahead : Owned → Bool) → List Item → List Item
-in_front ahead [] = []
-in_front ahead (i ∷ is) = if ahead i.owned then [] else i ∷ in_front ahead is
+-- For the objects of one of these items an operation may be called that touches storage.
+abbrev pub some_ahead : (ahead : Owned → Bool) → List Item → Bool
+some_ahead ahead [] = false
+some_ahead ahead (i ∷ is) = ahead i.owned || some_ahead ahead is
 
--- The items of a master from that one on.
-abbrev pub from_ahead : (ahead : Owned → Bool) → List Item → List Item
-from_ahead ahead [] = []
-from_ahead ahead (i ∷ is) = if ahead i.owned then i ∷ is else from_ahead ahead is
+-- The items of a master, once no such operation is called any more.
+abbrev pub behind_all : (ahead : Owned → Bool) → List Item → List Item
+behind_all ahead is = if some_ahead ahead is then [] else is
 
--- Where a master is left, nothing relies on the components of what lies in the collections in front of that one: all of it is gone before such an operation is called.
+-- Where a master is left, nothing relies on the components of what lies in its collections, once no such operation is called for any of it.
 abbrev pub sparing : (ahead : Owned → Bool) → List Object → List Item → Id → Bool
-sparing ahead heap items o = going heap (in_front ahead items) o
+sparing ahead heap items o = going heap (behind_all ahead items) o
 
 -- What a place is relied on for.
 abbrev pub hold_in : Outsiders → (spared : Id → Bool) → Holds → Place → Hold
@@ -858,67 +857,80 @@ respare {outer = outer} {heap = heap} {places = places} {holds = holds} spared t
     go (component o c) k e = ap component_hold (same o c k e)
     go (elsewhere d x) k e = refl
 
--- Which objects are of a master that is left stays, where one changes and keeps its home; and where an item goes that has no object any more.
-going_stays : (heap : List Object) (items : List Item) (o : Id) (x y : Object) → object_at heap o ≡ Some x → y.cell.home ≡ x.cell.home → (k : Id) → going (slice_set heap o.0 y) items k ≡ going heap items k
-going_stays heap items o x y found same k = go (same_id k o)
+-- A component that names something is one of an object that is there.
+is_present : (b : Bool) (v : Value) (k : Id) → (if b then v else Null) ≡ Names k → b ≡ true
+is_present true v k e = refl
+is_present false v k e = absurd (cc e)
+
+-- Which objects are of a master that is left stays, where one changes, and keeps its home, and its words are out as before, if it is there; and where an item goes
+-- that has no object any more.
+going_stays : (heap : List Object) (items : List Item) (o : Id) (x y : Object) → object_at heap o ≡ Some x → y.cell.home ≡ x.cell.home → (is_there y.stage ≡ true → y.out ≡ x.out)
+    → (k : Id) (c : ℕ) (n : Id) → component_in (object_at (slice_set heap o.0 y) k) c ≡ Names n → going (slice_set heap o.0 y) items k ≡ going heap items k
+going_stays heap items o x y found same out k c n names = go (same_id k o)
   where
     go : (k ≡ o) ⊎ (k ≢ o) → going (slice_set heap o.0 y) items k ≡ going heap items k
-    go (inl e) = rw (e, at_here heap o x found y, found) (ap (λ h. is_number_of items h.item) same)
+    go (inl e) =
+        let here : object_at (slice_set heap o.0 y) k ≡ Some y = rw (e, at_here heap o x found y) refl in
+        let names_here : component_in (Some y) c ≡ Names n = rw here at names in
+        let there = is_present (is_there y.stage) (slice_index_or y.cell.values c Null) n names_here in
+        rw (e, at_here heap o x found y, found, out there, same) refl
     go (inr ne) = ap (λ t. lies_among t items) (at_other heap o k y ne)
 
 first_only : (b rest : Bool) → (b ≡ true → ⊥) → rest ≡ b || rest
 first_only true rest none = absurd (none refl)
 first_only false rest none = refl
 
--- A component that names something is one of an object that is there.
-is_present : (b : Bool) (v : Value) (k : Id) → (if b then v else Null) ≡ Names k → b ≡ true
-is_present true v k e = refl
-is_present false v k e = absurd (cc e)
-
-shorter_stays : (item : Item) (items : List Item) (t : Option Object) (c : ℕ) (k : Id) → ((x : Object) → t ≡ Some x → is_there x.stage ≡ true → x.cell.home.item ≡ item.number → ⊥) → component_in t c ≡ Names k → lies_among t items ≡ lies_among t (item ∷ items)
+shorter_stays : (item : Item) (items : List Item) (t : Option Object) (c : ℕ) (k : Id) → ((x : Object) → t ≡ Some x → is_there x.stage ≡ true → x.out ≡ true → x.cell.home.item ≡ item.number → ⊥) → component_in t c ≡ Names k → lies_among t items ≡ lies_among t (item ∷ items)
 shorter_stays item items None c k none e = refl
-shorter_stays item items (Some x) c k none e =
-    let there = is_present (is_there x.stage) (slice_index_or x.cell.values c Null) k e in
-    first_only (item.number == x.cell.home.item) (is_number_of items x.cell.home.item) (λ is. none x refl there (sym (eqb-true item.number x.cell.home.item is)))
+shorter_stays item items (Some x) c k none e = by x.out refl
+  where
+    by : (out : Bool) → x.out ≡ out → lies_among (Some x) items ≡ lies_among (Some x) (item ∷ items)
+    by true out =
+        let there = is_present (is_there x.stage) (slice_index_or x.cell.values c Null) k e in
+        rw out (first_only (item.number == x.cell.home.item) (is_number_of items x.cell.home.item) (λ is. none x refl there out (sym (eqb-true item.number x.cell.home.item is))))
+    by false out = rw out refl
 
 -- No object lies among no items.
 pub lies_nowhere : (t : Option Object) → false ≡ lies_among t []
 lies_nowhere None = refl
-lies_nowhere (Some x) = refl
+lies_nowhere (Some x) = by x.out refl
+  where
+    by : (out : Bool) → x.out ≡ out → false ≡ lies_among (Some x) []
+    by true is = rw is refl
+    by false is = rw is refl
 
 -- While a master is left, homes stay as they are; an item goes whose collection is empty; and where none is left, all is relied on again.
-sparing_stays : (ahead : Owned → Bool) (heap : List Object) (items : List Item) (o : Id) (x y : Object) → object_at heap o ≡ Some x → y.cell.home ≡ x.cell.home → (k : Id) → sparing ahead (slice_set heap o.0 y) items k ≡ sparing ahead heap items k
-sparing_stays ahead heap items o x y found same k = going_stays heap (in_front ahead items) o x y found same k
+pub sparing_set : (ahead : Owned → Bool) (outer : Outsiders) → {types : List TypeForm} {variables : List VariableForm} {places : List Value} {holds : Holds} (heap : List Object) (items : List Item) (o : Id) (x y : Object) → object_at heap o ≡ Some x → y.cell.home ≡ x.cell.home
+    → (is_there y.stage ≡ true → y.out ≡ x.out) → Fit types variables outer (sparing ahead heap items) (slice_set heap o.0 y) places holds → Fit types variables outer (sparing ahead (slice_set heap o.0 y) items) (slice_set heap o.0 y) places holds
+sparing_set ahead outer heap items o x y found same out f =
+    respare (sparing ahead heap items) (sparing ahead (slice_set heap o.0 y) items) (λ k c n e. going_stays heap (behind_all ahead items) o x y found same out k c n e) f
 
-pub sparing_set : (ahead : Owned → Bool) (outer : Outsiders) → {types : List TypeForm} {variables : List VariableForm} {places : List Value} {holds : Holds} (heap : List Object) (items : List Item) (o : Id) (x y : Object) → object_at heap o ≡ Some x → y.cell.home ≡ x.cell.home → Fit types variables outer (sparing ahead heap items) (slice_set heap o.0 y) places holds → Fit types variables outer (sparing ahead (slice_set heap o.0 y) items) (slice_set heap o.0 y) places holds
-sparing_set ahead outer heap items o x y found same f =
-    respare (sparing ahead heap items) (sparing ahead (slice_set heap o.0 y) items) (λ k c n e. sparing_stays ahead heap items o x y found same k) f
-
-pub sparing_shorter : (ahead : Owned → Bool) → {types : List TypeForm} {variables : List VariableForm} {outer : Outsiders} {heap : List Object} {places : List Value} {holds : Holds} (item : Item) (items : List Item) → ((o : Id) (x : Object) → object_at heap o ≡ Some x → is_there x.stage ≡ true → x.cell.home.item ≡ item.number → ⊥) → Fit types variables outer (sparing ahead heap (item ∷ items)) heap places holds → Fit types variables outer (sparing ahead heap items) heap places holds
-sparing_shorter ahead {types} {variables} {outer} {heap} {places} {holds} item items none f = by (ahead item.owned) refl
+pub sparing_shorter : (ahead : Owned → Bool) → {types : List TypeForm} {variables : List VariableForm} {outer : Outsiders} {heap : List Object} {places : List Value} {holds : Holds} (item : Item) (items : List Item) → ((o : Id) (x : Object) → object_at heap o ≡ Some x → is_there x.stage ≡ true → x.out ≡ true → x.cell.home.item ≡ item.number → ⊥) → Fit types variables outer (sparing ahead heap (item ∷ items)) heap places holds → Fit types variables outer (sparing ahead heap items) heap places holds
+sparing_shorter ahead {types} {variables} {outer} {heap} {places} {holds} item items none f = by (ahead item.owned) refl (some_ahead ahead items) refl
   where
-    by : (here : Bool) → ahead item.owned ≡ here → Fit types variables outer (sparing ahead heap items) heap places holds
-    by true here =
+    by : (here : Bool) → ahead item.owned ≡ here → (later : Bool) → some_ahead ahead items ≡ later → Fit types variables outer (sparing ahead heap items) heap places holds
+    by true here later rest =
         spare_fit (sparing ahead heap items)
         (respare (sparing ahead heap (item ∷ items)) none_spared (λ o c k e. rw here (lies_nowhere (object_at heap o))) f)
-    by false here =
+    by false here true rest = respare (sparing ahead heap (item ∷ items)) (sparing ahead heap items) (λ o c k e. rw (here, rest) refl) f
+    by false here false rest =
         respare (sparing ahead heap (item ∷ items)) (sparing ahead heap items)
-        (λ o c k e. rw here (shorter_stays item (in_front ahead items) (object_at heap o) c k (none o) e)) f
+        (λ o c k e. rw (here, rest) (shorter_stays item items (object_at heap o) c k (none o) e)) f
 
 pub sparing_left : (ahead : Owned → Bool) → {types : List TypeForm} {variables : List VariableForm} {outer : Outsiders} {heap : List Object} {places : List Value} {holds : Holds} → Fit types variables outer (sparing ahead heap []) heap places holds → Fit types variables outer none_spared heap places holds
 sparing_left ahead {outer = outer} {heap = heap} f = respare (sparing ahead heap []) none_spared (λ o c k e. lies_nowhere (object_at heap o)) f
 
 -- What no place is relied on to name is so still, where homes stay as they are.
-pub sparing_unnamed : (ahead : Owned → Bool) (outer : Outsiders) (heap : List Object) (items : List Item) (o : Id) (x y : Object) → object_at heap o ≡ Some x → y.cell.home ≡ x.cell.home → (places : List Value) (holds : Holds) (p : Id) → IsUnnamed (slice_set heap o.0 y) (stacked places outer) (hold_in outer (sparing ahead heap items) holds) p → IsUnnamed (slice_set heap o.0 y) (stacked places outer) (hold_in outer (sparing ahead (slice_set heap o.0 y) items) holds) p
-sparing_unnamed ahead outer heap items o x y found same places holds p none = record {
-  unowned = λ q own e. none.unowned q (rw (one q) at own) e;
-  unborrowed = λ q b e. none.unborrowed q (rw (one q) at b) e;
+pub sparing_unnamed : (ahead : Owned → Bool) (outer : Outsiders) (heap : List Object) (items : List Item) (o : Id) (x y : Object) → object_at heap o ≡ Some x → y.cell.home ≡ x.cell.home → (is_there y.stage ≡ true → y.out ≡ x.out) → (places : List Value) (holds : Holds) (p : Id) → IsUnnamed (slice_set heap o.0 y) (stacked places outer) (hold_in outer (sparing ahead heap items) holds) p → IsUnnamed (slice_set heap o.0 y) (stacked places outer) (hold_in outer (sparing ahead (slice_set heap o.0 y) items) holds) p
+sparing_unnamed ahead outer heap items o x y found same out places holds p none = record {
+  unowned = λ q own e. none.unowned q (rw (one q e) at own) e;
+  unborrowed = λ q b e. none.unborrowed q (rw (one q e) at b) e;
 }
   where
-    one : (q : Place) → hold_in outer (sparing ahead (slice_set heap o.0 y) items) holds q ≡ hold_in outer (sparing ahead heap items) holds q
-    one (variable z) = refl
-    one (component k c) = ap component_hold (sparing_stays ahead heap items o x y found same k)
-    one (elsewhere d z) = refl
+    one : (q : Place) → value_at (slice_set heap o.0 y) (stacked places outer) q ≡ Names p → hold_in outer (sparing ahead (slice_set heap o.0 y) items) holds q ≡ hold_in outer (sparing ahead heap items) holds q
+    one (variable z) e = refl
+    one (component k c) e = ap component_hold (going_stays heap (behind_all ahead items) o x y found same out k c p e)
+    one (elsewhere d z) e = refl
 
 -- So it is where less is relied on: what was called null names nothing.
 module _ (heap : List Object) (kind : Option ℕ) (o : Id) where

@@ -22,7 +22,7 @@ use Rattle.ada_meaning.specs.Named.{State, named, parted}
 use Rattle.ada_sound.proofs.Fits.{NoOuterAlias, is_object, IsOwn, IsSaid, place_at, weaker_fit, null_fit, behind_fit, freed_unnamed, variable_inside, less_unnamed, same_unnamed, part_fit}
 use Rattle.ada_sound.proofs.Objects.{set_here}
 use Rattle.ada_sound.proofs.Homes.{HaveHomes, same_one, stands_there, freed_home}
-use Rattle.ada_sound.proofs.Stored.{stored_part}
+use Rattle.ada_sound.proofs.Stored.{listed_out, stored_part}
 use Rattle.ada_sound.proofs.Alters.{alters_set}
 use Rattle.ada_sound.proofs.Taken.{root_access}
 use Rattle.ada_sound.proofs.Invariant.{CoveredIn, EndsWellBy, FreesWell, outers, Known, Control, Rooms, Goes, To, RunsOn, Working, Ending, Stepped, Fine}
@@ -56,7 +56,9 @@ module _ (known : Known) (a : Activation Value) (rest : List (Activation Value))
       let exists = (w.stored.sane o there.0 found).there_exists there.2 in
       let of_own = root_access w.fit x spot o there.0 (own_kept (hold_at w.holds x) spot own) is found in
       let one : own_type ≡ there.0.cell.access = cc (of_type, of_own) in
-      let home = freed_home access o there.0 homes w.stored found exists (rw (← one) is_type) (sym one ∙ by_own) in
+      let stands = stands_there o there.0 homes w.stored found there.2 (rw (← one) is_type) (rw (← one, by_own) freely) (variable_inside x o own is w.fit) in
+      let out = listed_out o there.0 found stands.0 w.stored in
+      let home = freed_home access o there.0 homes w.stored found out (rw (← one) is_type) (sym one ∙ by_own) in
       let here = set_here s.heap o.0 there.0 (parted there.0) found in
       let well : FreesWell known (slice_set s.heap o.0 (parted there.0)) (Some o) more.0 = λ object at. (
       let same : object ≡ parted there.0 = cc (at, here) in
@@ -66,6 +68,7 @@ module _ (known : Known) (a : Activation Value) (rest : List (Activation Value))
         object = parted there.0;
         found = set_here s.heap o.0 there.0 (parted there.0) found;
         exists = exists;
+        out = out;
         parted = refl;
         stored = stored_part o there.0 found w.stored;
         covered = (subst (λ (u : ℕ). CoveredIn known.implicit known.program u) one spares.1, rw (← one) is_type);
@@ -82,7 +85,6 @@ module _ (known : Known) (a : Activation Value) (rest : List (Activation Value))
           },
         );
       } in
-      let stands = stands_there o there.0 homes w.stored found there.2 (rw (← one) is_type) (rw (← one, by_own) freely) (variable_inside x o own is w.fit) in
       rw (found, stands.0, stands.1) (rw (same_one (Some (pool_freed_to (home_of access s.masters))) there.0.cell.home.pool home) (rw found (record {
         ready = (
           tt,

@@ -10,7 +10,7 @@ use Rattle.ada_program.specs.declared.program.TypeDefinition.{TypeDefinition}
 use Rattle.ada_program.specs.Form.{ActualForm}
 use Rattle.ada_program.specs.WellFormed.{object_named}
 use Rattle.ada_finalized.specs.Law.{NoOperationRunsOn, finalized_before, waits_for_operation}
-use Rattle.ada_program.specs.ProgramForm.{BodyForm, ProgramForm}
+use Rattle.ada_program.specs.ProgramForm.{BodyForm}
 use Rattle.ada_meaning.specs.declared.state.Value.{Value}
 use Rattle.ada_meaning.specs.declared.state.Mode.{Mode}
 use Rattle.ada_meaning.specs.declared.state.Mode.TheVariants.{Running, Raising, Exiting, Returning}

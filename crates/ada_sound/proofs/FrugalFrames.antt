@@ -33,7 +33,7 @@ use Rattle.ada_meaning.specs.Event.{Event, Followed, Quiet}
 use Rattle.ada_meaning.specs.Heap.{Cell, Found, on_null, on_gone, on_other, finds, PartState}
 use Rattle.std.proofs.lemmas.Bool.{eq-eqb, or_right}
 use Rattle.ada_parts.specs.Task.{performs}
-use Rattle.ada_meaning.specs.Frame.{Frame, Elaborates, Leaves, Resumes, Calls, TestsNull, RefersIn, OpensIn, Fills, Copies, Targets, Assigns, Refers, Receives, FreesIn, Declares, DeclaresRecord, Ends, GivesBack, Clears, ClearsIn, Confines, TargetsRecord, StoresRecord, begins, ends}
+use Rattle.ada_meaning.specs.Frame.{Frame, Elaborates, Leaves, Resumes, Calls, TestsNull, RefersIn, OpensIn, Fills, Copies, Targets, Receives, FreesIn, Declares, DeclaresRecord, Ends, GivesBack, Clears, ClearsIn, Confines, TargetsRecord, StoresRecord, begins, ends}
 use Rattle.ada_meaning.specs.State.{Activation, Item, Master, Owned, declared, collection, record_object, storage_pool, Destination, height, home_of, pool_freed_to}
 use Rattle.ada_meaning.specs.Step.{copy_next, assigning, assigns_next, record_tasks, undone, undo_next, broken_next, first_or, older, places_of, operands_of, with_operands, begun, record_holder_next, referred_next, refers_next, open_next, opened_next, opens_next, storing, returned, computing, call_next, entered, all_tasks, made, halts, moves, same_pool, raised, jumping, computed, put, owned, at, reading, component_next, follow_next, path_next, selected, named_next, before_last, last_of, holder_next, expression_next, null_test_next, is_decided, link_next, links_next, outcome_next, place_in, record_in, item_next, items_next, copied_next, copies_next, answered, new_next, right_next, freeing, freeing_next, free_next, end_next, told_back, given_back, back_next, assign_next, target_next, stored_next, store_next, record_target_next, record_stored_next, newest_ones, store_record_next, record_assign_next, has_parts, frees_next, freed_next, free_component_next, free_in_next, branches_next, decided_next, turn_next, repeats_next, turned_next, count_turn_next, counts_next, ranges_next, gets_next, received_next, receive_next, exit_next, exited_next, stmt_next, line_next, declarations_next, leave_next, master_leave_next, item_leave_next, granted, new_cell, born_next, awaited_next, taken_out, members_next, treating}
 use Rattle.ada_meaning.specs.Named.{Object, State, Next, named, whole, look, standing, created, members}
@@ -45,7 +45,7 @@ use Rattle.ada_sound.proofs.Allowance.{Allowance, fills_parts, is_inert, may_ass
 use Rattle.ada_sound.proofs.Fits.{place_at}
 use Rattle.ada_sound.proofs.Invariant.{Control}
 use Rattle.ada_sound.proofs.OperationStarts.{apart}
-use Rattle.ada_sound.proofs.FrugalControl.{AdjustsThere, AreInert, AreOwnedBy, BeginsThere, EndsAssigned, FrugalBegins, FrugalLeads, FrugalLeaves, Frugally, GoesFrugally, IsLeft, IsOwnedBy, MayLeave, RecordIsInside, adjusting_frugal, assigned_parts, assigned_with, beginning_frugal, finalizing_frugal, more_leads, own_in, own_treating, storing_frugal, treating_leads, treating_leaves, waits_first, with_variable}
+use Rattle.ada_sound.proofs.FrugalControl.{AreInert, AreOwnedBy, BeginsThere, FrugalBegins, FrugalLeads, FrugalLeaves, Frugally, GoesFrugally, IsLeft, IsOwnedBy, MayLeave, RecordIsInside, adjusting_frugal, assigned_parts, assigned_with, beginning_frugal, finalizing_frugal, more_leads, own_in, own_treating, storing_frugal, treating_leads, treating_leaves, waits_first, with_variable}
 use Rattle.ada_sound.proofs.FrugalFrees.{RecordIsBare, IsFreely, StmtIsFreely, IsNewly, LeftAlone, Unborn, past_unborn}
 use Rattle.ada_sound.proofs.Stored.{IsTaken, taken_is}
 

@@ -1,8 +1,8 @@
 -- A frugal body leaves a master of its own, which owns variables, and record objects, where it may declare some (7.6.1): no component names an object whose
 -- home is there.
 
-use Rattle.std.proofs.Common.{◌≡◌, ℕ, Bool, true, false, ◌&&◌, List, [], ◌∷◌, ◌++◌, if◌then◌else◌, refl, sym, ap, ◌∙◌, inl, inr, arith}
-use Rattle.std.proofs.lemmas.Bool.{eqb-true}
+use Rattle.std.proofs.Common.{◌≡◌, ℕ, Bool, true, false, not, ◌&&◌, List, [], ◌∷◌, ◌++◌, if◌then◌else◌, refl, sym, ap, ◌∙◌, inl, inr, arith}
+use Rattle.std.proofs.lemmas.Bool.{and_parts, eqb-true}
 use Rattle.std.specs.Prelude.{Option, Some, None, ◌==◌}
 use Rattle.std.specs.List.{list_all}
 use Rattle.ada_flow.specs.Flow.{Holds}
@@ -14,25 +14,28 @@ use Rattle.ada_meaning.specs.declared.state.Mode.TheVariants.{Running}
 use Rattle.ada_meaning.specs.declared.state.Value.{Value}
 use Rattle.ada_meaning.specs.declared.state.Value.TheVariants.{Null, Names, Scalar, Part}
 use Rattle.ada_meaning.specs.declared.event.Cause.TheVariants.{Leaving}
-use Rattle.ada_meaning.specs.Frame.{Confines, Ends, GivesBack, Leaves, Treats}
+use Rattle.ada_meaning.specs.Frame.{Confines, Ends, GivesBack, Leaves, Treatment, Treats}
 use Rattle.ada_meaning.specs.Heap.{Home}
 use Rattle.ada_meaning.specs.Law.{items_of}
 use Rattle.ada_meaning.specs.State.{Owned, declared, collection, record_object, storage_pool, type_housed, Item, Master}
 use Rattle.ada_meaning.specs.Named.{Object, object_at}
-use Rattle.ada_owners.specs.Places.{access_at, is_there}
+use Rattle.ada_meaning.specs.Step.{treating}
+use Rattle.ada_parts.specs.Task.{Task}
+use Rattle.ada_owners.specs.Places.{access_at}
 use Rattle.ada_owners.specs.Reliance.{IsOf}
-use Rattle.ada_scopes.specs.Scopes.{is_number_of, is_innermost}
-use Rattle.ada_scopes.proofs.Homes.{ItemsFit, OwnedFits}
+use Rattle.ada_scopes.specs.Scopes.{is_declared_object, is_number_of, is_innermost}
+use Rattle.ada_scopes.proofs.Homes.{ItemsFit, OwnedFits, fit_before}
 use Rattle.ada_tracked.specs.Law.{InnermostHousesNone, NewestHousesNone}
 use Rattle.ada_sound.proofs.Allowance.{Allowance}
-use Rattle.ada_sound.proofs.Fits.{access_is, component_access, component_is, in_front, lies_among, sparing}
-use Rattle.ada_sound.proofs.FrugalControl.{AreOwnedBy, Frugal, FrugalLeads, FrugalLeaves, IsOwnedBy}
+use Rattle.ada_sound.proofs.Fits.{access_is, component_access, component_is, behind_all, some_ahead, lies_among, sparing}
+use Rattle.ada_sound.proofs.FrugalControl.{AreOwnedBy, Frugal, FrugalLeads, FrugalLeaves, FrugalOperated, IsOwnedBy}
 use Rattle.ada_sound.proofs.FrugalFrees.{accepted_access}
-use Rattle.ada_sound.proofs.Invariant.{Control, EndingBy, Known, LeavesTo, Parting, ReadyIn, Rooms, ThenBack, departs, departs_next, innermost, is_collection}
+use Rattle.ada_sound.proofs.Invariant.{Control, EndingBy, Known, LeavesTo, Parting, ReadyIn, Rooms, ThenBack, departs, departs_next, innermost}
 use Rattle.ada_sound.proofs.Items.{Counted, HasItem, Houses, item_below}
-use Rattle.ada_sound.proofs.Leavings.{HeldIn}
+use Rattle.ada_sound.proofs.InOrder.{component_is_access}
+use Rattle.ada_sound.proofs.Leavings.{GoesWell, HeldIn}
 use Rattle.ada_sound.proofs.Operating.{AreVariables, IsVariable}
-use Rattle.ada_sound.proofs.Stored.{Stored, exists_out}
+use Rattle.ada_sound.proofs.Stored.{Stored}
 
 -- An object whose home is among such items is a record object, and its type is no access type.
 abbrev IsDeclared : Allowance → List TypeForm → (access : ℕ) → Type 0
@@ -61,26 +64,21 @@ module _ (allowance : Allowance) (types : List TypeForm) where
           absurd (omega (arith, number, less, count))
       go false other others = others (rw other at among)
 
-  -- So it is with an object that is there, and has its home in such a master.
+  -- So it is with an object whose words are out, and which has its home in such a master.
   inner_declared :
       {under : List Id} (heap : List Object) (ms : List Master) → Stored under heap ms → AreOwnedBy allowance (innermost ms) → ItemsFit types (items_of ms)
-      → (o : Id) (x : Object) → object_at heap o ≡ Some x → is_there x.stage ≡ true → is_innermost ms x.cell.home.item ≡ true → IsDeclared allowance types x.cell.access
-  inner_declared heap [] stored own fits o x found there inner = absurd (cc inner)
-  inner_declared heap (m ∷ ms) stored own fits o x found there inner =
-      let sane = stored.sane o x found in
-      let housed = sane.housed (exists_out o x found (sane.there_exists there) stored) in
-      home_declared m.items (items_of ms) x.cell.home.item x.cell.access x.cell.home.pool own fits stored.counted inner housed
+      → (o : Id) (x : Object) → object_at heap o ≡ Some x → x.out ≡ true → is_innermost ms x.cell.home.item ≡ true → IsDeclared allowance types x.cell.access
+  inner_declared heap [] stored own fits o x found out inner = absurd (cc inner)
+  inner_declared heap (m ∷ ms) stored own fits o x found out inner =
+      home_declared m.items (items_of ms) x.cell.home.item x.cell.access x.cell.home.pool own fits stored.counted inner ((stored.sane o x found).housed out)
 
--- What lies among the newest of these items lies among all of them.
-one_among : (ahead first : Bool) (i : Item) (is newest : List Item) (n : ℕ) → (i.number == n) ≡ first → (is_number_of newest n ≡ true → is_number_of is n ≡ true)
-    → is_number_of (if ahead then [] else i ∷ newest) n ≡ true → is_number_of (i ∷ is) n ≡ true
-one_among true first i is newest n same later among = absurd (cc among)
-one_among false true i is newest n same later among = rw same refl
-one_among false false i is newest n same later among = rw same (later (rw same at among))
-
-in_front_among : (ahead : Owned → Bool) (is : List Item) (n : ℕ) → is_number_of (in_front ahead is) n ≡ true → is_number_of is n ≡ true
-in_front_among ahead [] n among = among
-in_front_among ahead (i ∷ is) n among = one_among (ahead i.owned) (i.number == n) i is (in_front ahead is) n refl (in_front_among ahead is n) among
+-- What lies in items for which no operation is called that touches storage lies in these.
+behind_among : (ahead : Owned → Bool) (is : List Item) (n : ℕ) → is_number_of (behind_all ahead is) n ≡ true → is_number_of is n ≡ true
+behind_among ahead is n among = by (some_ahead ahead is) among
+  where
+    by : (some : Bool) → is_number_of (if some then [] else is) n ≡ true → is_number_of is n ≡ true
+    by true among' = absurd (cc among')
+    by false among' = among'
 
 innermost_among : (ms : List Master) (n : ℕ) → is_number_of (innermost ms) n ≡ true → is_innermost ms n ≡ true
 innermost_among [] n among = among
@@ -98,15 +96,16 @@ named_access types fit heap holder held c p (Some t) is own of =
 pub held_in_none : (known : Known) (heap : List Object) (places : List Value) (ms : List Master) (more : Rooms → Holds → Type 0) → Parting known heap places ms more
     → (allowance : Allowance) → AreOwnedBy allowance (innermost ms) → ItemsFit known.program.types (items_of ms)
     → (allowance.objects ≡ true → list_all (type_fits known.program.types) known.program.types ≡ true) → HeldIn heap ms
-held_in_none known heap places ms more parting allowance own fits types_fit holder held (o, p, c, holds, names, at') inner =
+held_in_none known heap places ms more parting allowance own fits types_fit holder held (o, p, c, holds, names, at') out inner =
     by (sparing known.ahead heap (innermost ms) o) refl
   where
     by : (spared : Bool) → sparing known.ahead heap (innermost ms) o ≡ spared → is_innermost ms holder.cell.home.item ≡ true
     by true is =
-        let among : is_number_of (in_front known.ahead (innermost ms)) holder.cell.home.item ≡ true = sym (ap (λ (x : Option Object). lies_among x (in_front known.ahead (innermost ms))) holds.0) ∙ is in
-        innermost_among ms holder.cell.home.item (in_front_among known.ahead (innermost ms) holder.cell.home.item among)
+        let lies : lies_among (Some holder) (behind_all known.ahead (innermost ms)) ≡ true = sym (ap (λ (x : Option Object). lies_among x (behind_all known.ahead (innermost ms))) holds.0) ∙ is in
+        let both = and_parts holder.out (is_number_of (behind_all known.ahead (innermost ms)) holder.cell.home.item) lies in
+        innermost_among ms holder.cell.home.item (behind_among known.ahead (innermost ms) holder.cell.home.item both.1)
     by false kept =
-        let it_is = inner_declared allowance known.program.types heap ms parting.stored own fits p held names.0 names.1 inner in
+        let it_is = inner_declared allowance known.program.types heap ms parting.stored own fits p held names.0 out inner in
         let of = component_is o holder c (Names p) p kept holds.0 holds.1 at' refl parting.fit in
         let accessed = named_access known.program.types (types_fit it_is.0) heap holder held c p (component_access known.program.types holder c) refl (access_is heap p held names.0 names.1) of in
         let declares = it_is.1 in
@@ -161,11 +160,34 @@ owned_stay : (allowance : Allowance) (ahead : Owned → Bool) (is : List Item) �
 owned_stay allowance ahead [] own = refl
 owned_stay allowance ahead (i ∷ is) own = by i.owned own.0
   where
-    by : (owned : Owned) → IsOwnedBy allowance owned → (is_collection owned && ahead owned) ≡ false
+    by : (owned : Owned) → IsOwnedBy allowance owned → (not (is_declared_object owned) && some_ahead ahead (i ∷ is)) ≡ false
     by (declared x) of = refl
     by (collection access pool) of = absurd of
     by (record_object t) of = refl
-    by (storage_pool declaration number) of = refl
+    by (storage_pool declaration number) of = absurd of
+
+-- No component is of the type of a record object, which is no access type: so the newest item goes well.
+module _ (allowance : Allowance) (types : List TypeForm) (fit : allowance.objects ≡ true → list_all (type_fits types) types ≡ true) (heap : List Object) where
+  owned_declared : (owned : Owned) → IsOwnedBy allowance owned → is_declared_object owned ≡ true
+  owned_declared (declared x) own = refl
+  owned_declared (collection t from) own = absurd own
+  owned_declared (record_object t) own = refl
+  owned_declared (storage_pool declaration number) own = absurd own
+
+  newest_goes_well : (is : List Item) → AreOwnedBy allowance is → ItemsFit types is → GoesWell types heap is
+  newest_goes_well [] own fits = tt
+  newest_goes_well (i ∷ is) own fits = (
+    (λ alone access pool houses v c named.
+        let it_is = housed_declared allowance types i.owned access pool own.0 fits.0 houses in
+        let none = it_is.1 in
+        let one = component_is_access types (fit it_is.0) v c access named in
+        cc (one, none)),
+    (λ collected. let declared_so = owned_declared i.owned own.0 in absurd (cc (collected, declared_so))),
+  )
+
+  pub owned_goes_well : (ms : List Master) → AreOwnedBy allowance (innermost ms) → ItemsFit types (items_of ms) → GoesWell types heap (innermost ms)
+  owned_goes_well [] own fits = tt
+  owned_goes_well (m ∷ ms) own fits = newest_goes_well m.items own (fit_before types m.items (items_of ms) fits)
 
 -- What is freed ends in front of no master that is left.
 module _ (known : Known) (frugal : Allowance) (back : Control) (among : List Value) (heap : List Object) (places : List Value) (masters : List Master) (upper : List Master) where
@@ -199,3 +221,13 @@ frugal_stays known frugal back among mode (Ends v ∷ GivesBack w (Leaving m ite
     owned_stay frugal known.ahead (innermost (upper ++ lower)) (leaving_own frugal back among k upper lower leaving.1)
 frugal_stays known frugal back among mode (Ends v ∷ GivesBack w (Leaving m item) pool ∷ k) heap places operands upper lower (inr (inr beginning)) ready = absurd beginning.1
 frugal_stays known frugal back among mode k heap places operands upper lower frugally ready = refl
+
+-- Nor is one left behind an operation of an object that such a body finalizes.
+pub operated_stays : (ahead : Owned → Bool) (frugal : Allowance) (back : Control) (among : List Value) (v w : Value) (treatment : Treatment) (tasks : List Task) (m item : ℕ) (pool : Option ℕ) (mode : Mode) (k : Control) (upper lower : List Master)
+    → FrugalOperated frugal back among (Confines ∷ treating v treatment tasks (Ends v ∷ GivesBack w (Leaving m item) pool ∷ Leaves mode ∷ k)) upper → departs ahead (innermost (upper ++ lower)) ≡ false
+operated_stays ahead frugal back among v w treatment [] m item pool mode k upper lower (vs, is, inl (ending, leads)) = absurd leads.1.1.0
+operated_stays ahead frugal back among v w treatment [] m item pool mode k upper lower (vs, is, inr (ending, leaving)) =
+    owned_stay frugal ahead (innermost (upper ++ lower)) (leaving_own frugal back vs (Ends v ∷ GivesBack w (Leaving m item) pool ∷ Leaves mode ∷ k) upper lower leaving)
+operated_stays ahead frugal back among v w treatment (task ∷ tasks) m item pool mode k upper lower (vs, is, inl (ending, leads)) = absurd leads.1.1.1.0
+operated_stays ahead frugal back among v w treatment (task ∷ tasks) m item pool mode k upper lower (vs, is, inr (ending, leaving)) =
+    owned_stay frugal ahead (innermost (upper ++ lower)) (leaving_own frugal back vs (Ends v ∷ GivesBack w (Leaving m item) pool ∷ Leaves mode ∷ k) upper lower leaving.1)

@@ -48,7 +48,7 @@ use Rattle.ada_sound.specs.Agreement.{running_procedure}
 use Rattle.ada_sound.proofs.Calm.{ends_operation}
 use Rattle.ada_sound.proofs.Invariant.{Control}
 use Rattle.ada_sound.proofs.OperationStarts.{apart}
-use Rattle.ada_sound.proofs.FrugalControl.{AdjustsThere, AreInert, EndsThere, LeavesThere, IsAdjusted, RecordIsInside, adjusting_frugal, finalizing_frugal, own_in, FrugalLeads, FrugalLeaves, MayLeave, Frugal, is_return_first, none_treated, none_left, treating_leads, treating_leaves, Frugally, GoesFrugally, BeginsThere, FrugalBegins, beginning_frugal, begins_first, leads_first, none_beginning}
+use Rattle.ada_sound.proofs.FrugalControl.{AreInert, EndsThere, LeavesThere, IsAdjusted, RecordIsInside, adjusting_frugal, finalizing_frugal, own_in, FrugalLeads, FrugalLeaves, MayLeave, Frugal, is_return_first, none_treated, none_left, treating_leads, treating_leaves, Frugally, GoesFrugally, BeginsThere, FrugalBegins, beginning_frugal, begins_first, leads_first, none_beginning}
 use Rattle.ada_sound.proofs.InsideRecords.{object_inside, performed_inside, record_inside}
 use Rattle.ada_sound.proofs.Standing.{FreesAmong}
 use Rattle.ada_sound.proofs.Steps.{crosses}

@@ -14,6 +14,8 @@ use Rattle.ada_sound.proofs.Treating.{treated_in_use}
 use Rattle.ada_sound.proofs.Finalization.{finalizes_in, parts_alive}
 use Rattle.ada_sound.proofs.Grounds.{Grounds}
 use Rattle.ada_sound.proofs.Starts.{Sound}
+use Rattle.ada_sound.proofs.Stored.{none_departed}
+use Rattle.ada_sound.proofs.WordsOut.{words_out}
 
 -- What steps rest on, in a state of a run.
 pub grounds : (program : Program) (s : State) → Sound program s → Grounds program s
@@ -34,6 +36,7 @@ grounds program s sound = record {
   unborn = λ o none. twice.operated_exist program sound.reached.0 sound.reached.1 s sound.reached.2 o none;
   unrun = λ o x found listed none. standing.none_runs_on_listed program sound.reached.0 sound.reached.1 s sound.reached.2 o x found listed none;
   stands = λ runs o x found listed none may. parts_alive program sound.well s sound.reached o x found (standing.listed_stand program sound.reached.0 sound.reached.1 s sound.reached.2 o x found listed none);
+  departed = λ o x gone. none_departed s.heap (words_out program s sound.reached) o x gone;
   exist = λ v treatment tasks k is alone. twice.values_exist program sound.reached.0 sound.reached.1 s sound.reached.2 v treatment tasks k is alone;
   assigned = λ v number tasks first t k is alone.
       assignments_stand program sound.well (operations_inside (program_form program) (treated_in_use program s sound.in_use sound.idle (Treats v (ends (Assigning number)) tasks ∷ Copies first t ∷ k) is tt))

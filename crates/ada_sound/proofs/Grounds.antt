@@ -14,7 +14,7 @@ use Rattle.ada_parts.specs.Part as parts
 use Rattle.ada_parts.specs.Task.{Task}
 use Rattle.ada_meaning.specs.declared.event.Birth.{Birth}
 use Rattle.ada_meaning.specs.declared.event.Cause.{Cause}
-use Rattle.ada_meaning.specs.declared.event.Cause.TheVariants.{Assigning}
+use Rattle.ada_meaning.specs.declared.event.Cause.TheVariants.{Assigning, Leaving}
 use Rattle.ada_meaning.specs.declared.event.Halt.TheVariants.{Erroneous}
 use Rattle.ada_meaning.specs.declared.event.Why.TheVariants.{FinalizesTwice}
 use Rattle.ada_meaning.specs.declared.state.Id.{Id}
@@ -38,14 +38,15 @@ use Rattle.ada_typed.proofs.Control as typed
 use Rattle.ada_typed.proofs.Kept.{behind_call}
 use Rattle.ada_sound.specs.Agreement.{running_procedure}
 use Rattle.ada_sound.specs.Always.{LetsNothingOut, SparesOwn, reaches_holder}
-use Rattle.ada_sound.proofs.Callers.{Suspension, known_in, Stands, callers_of}
+use Rattle.ada_sound.proofs.Callers.{AreCalls, Suspension, known_in, Stands}
 use Rattle.ada_sound.proofs.CallsApart.{CallApart}
 use Rattle.ada_sound.proofs.FreesInside.{FreesNoneInside}
 use Rattle.ada_sound.proofs.FrugalFrees.{Unborn}
 use Rattle.ada_sound.proofs.Fits.{Outsiders}
-use Rattle.ada_sound.proofs.Invariant.{Control, Ready, under_in}
+use Rattle.ada_sound.proofs.Invariant.{Control, Ready}
 use Rattle.ada_sound.proofs.Operating.{IsCalm}
 use Rattle.ada_sound.proofs.Standing.{FinalizesIn, any_type}
+use Rattle.ada_sound.proofs.Stored.{HasDeparted}
 use Rattle.ada_sound.proofs.Trackers.{TracksSafely}
 
 -- A run of the program comes to this state.
@@ -59,7 +60,7 @@ pub record Ordinary (program : Program) (s : State) : Type 0 where
   pub ready : Ready (known_in program (running_procedure s) suspensions) s
   pub stands : Stands program suspensions s
   pub calm : IsCalm (behind_call s.control)
-  pub settled : under_in (callers_of program suspensions) ≡ []
+  pub settled : AreCalls suspensions
 
 -- A program obeys the rules, and nothing tracks components, or they may be tracked.
 abbrev pub Obeys : Program → Type 0
@@ -70,6 +71,24 @@ abbrev pub may_free : Program → State → ℕ → Bool
 may_free program s t =
     let seen = seen_in (running_procedure s) (program_form program) in
     is_access (program_form program).types t && body_frees seen.types (effects_of (implicit_of (program_form program)) seen) (main_body seen) t
+
+-- What is left to do begins in the midst of what ends a master's objects (7.6.1).
+abbrev pub is_ending : Control → Bool
+is_ending [] = false
+is_ending (frame.Leaves mode ∷ k) = true
+is_ending (frame.Treats v (ends (Leaving master item)) tasks ∷ k) = true
+is_ending (frame.Confines ∷ k) = true
+is_ending (frame.Ends v ∷ k) = true
+is_ending (frame.GivesBack v cause pool ∷ k) = true
+is_ending (f ∷ k) = false
+
+-- An object has gone with its collection (7.6.1), though it is there: no operation of it runs, it is not treated next, and an operation runs of another object,
+-- unless a master's objects are being ended; the running body frees none of its type then.
+pub record IsLeftAlone (program : Program) (s : State) (o : Id) (x : Object) : Type 0 where
+  pub unrun : NoOperationRunsOn (Names o) s.control
+  pub untreated : (treatment : Treatment) (tasks : List Task) (k : Control) → s.control ≡ frame.Treats (Names o) treatment tasks ∷ k → ⊥
+  pub inside : is_ending s.control ≡ false → IsCalm (behind_call s.control) → ⊥
+  pub unfreed : (IsCalm (behind_call s.control) → ⊥) → may_free program s x.cell.access ≡ false
 
 pub record Grounds (program : Program) (s : State) : Type 0 where
   -- the program: as in each state
@@ -95,6 +114,8 @@ pub record Grounds (program : Program) (s : State) : Type 0 where
   pub unrun : (o : Id) (x : Object) → object_at s.heap o ≡ Some x → x.listed ≡ true → NothingBegins (Names o) s.control → NoOperationRunsOn (Names o) s.control
   pub stands : (IsCalm (behind_call s.control) → ⊥) → (o : Id) (x : Object) → object_at s.heap o ≡ Some x → x.listed ≡ true → NothingBegins (Names o) s.control → may_free program s x.cell.access ≡ true
       → all_alive x.cell.parts ≡ true
+  -- what has gone with its collection is left alone
+  pub departed : (o : Id) (x : Object) → HasDeparted s.heap o x → IsLeftAlone program s o x
   -- what is treated next has the values that are to be finalized, where no operation of it runs
   pub exist : (v : Value) (treatment : Treatment) (tasks : List Task) (k : Control) → s.control ≡ frame.Treats v treatment tasks ∷ k → NoOperationRunsOn v k
       → Halts program s (Erroneous FinalizesTwice) → ⊥

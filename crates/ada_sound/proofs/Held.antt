@@ -1,6 +1,6 @@
 -- What an operation is called for is held while its body runs (7.6, 7.6.1), as if a variable owned it: so nothing else comes to own it.
 
-use Rattle.std.proofs.Common.{◌≡◌, ◌≢◌, ℕ, zero, suc, ◌≤◌, Bool, true, false, List, [], ◌∷◌, refl, sym, ap, ◌∙◌, ◌⊎◌, inl, inr, arith}
+use Rattle.std.proofs.Common.{◌≡◌, ◌≢◌, ℕ, zero, suc, Bool, true, false, List, [], ◌∷◌, refl, sym, ap, subst, ◌∙◌, ◌⊎◌, inl, inr, arith}
 use Rattle.std.specs.Prelude.{Option, Some, None}
 use Rattle.std.specs.List.{slice_get, slice_set}
 use Rattle.ada_program.specs.ProgramForm.{TypeForm, VariableForm}
@@ -12,7 +12,7 @@ use Rattle.ada_flow.specs.Flow.{Holds, hold_at}
 use Rattle.ada_meaning.specs.declared.state.Id.{Id}
 use Rattle.ada_meaning.specs.declared.state.Value.{Value}
 use Rattle.ada_meaning.specs.declared.state.Value.TheVariants.{Null, Names, Scalar, Part}
-use Rattle.ada_meaning.specs.Named.{Object, object_at}
+use Rattle.ada_meaning.specs.Named.{Object}
 use Rattle.ada_owners.specs.Places.{Place, variable, component, elsewhere, value_at, access_at}
 use Rattle.ada_owners.specs.Reliance.{Says, Owns, Borrows, IsInHand, kind_of}
 use Rattle.ada_owners.proofs.Ends.{IsUnnamed}
@@ -172,11 +172,11 @@ held_borrows true o t others access none zero (suc x) of borrows = borrows
 held_borrows true o t others access none (suc d) x of borrows = none d x of borrows
 
 -- It lies where the object lies.
-pub held_lies : (held : Bool) (o : Id) (t : ℕ) (heap : List Object) (count : ℕ) → (object : Object) × (object_at heap o ≡ Some object) × (suc object.cell.home.item ≤ count)
-    → (x : ℕ) (k : Id) → IsRelied (outer_hold (holder_if held o t) x) → outer_value (holder_if held o t) x ≡ Names k → (object : Object) × (object_at heap k ≡ Some object) × (suc object.cell.home.item ≤ count)
-held_lies false o t heap count lies x k relied names = absurd relied
-held_lies true o t heap count lies zero k relied names = let same : o ≡ k = cc names in rw (← same) lies
-held_lies true o t heap count lies (suc x) k relied names = absurd relied
+pub held_lies : (held : Bool) (o : Id) (t : ℕ) (Lies : Id → Type 0) → Lies o
+    → (x : ℕ) (k : Id) → IsRelied (outer_hold (holder_if held o t) x) → outer_value (holder_if held o t) x ≡ Names k → Lies k
+held_lies false o t Lies lies x k relied names = absurd relied
+held_lies true o t Lies lies zero k relied names = let same : o ≡ k = cc names in subst Lies same lies
+held_lies true o t Lies lies (suc x) k relied names = absurd relied
 
 -- What no place owns is in hand.
 module _ (outer : Outsiders) (heap : List Object) (o : Id) (t : ℕ) (there : access_at heap o ≡ Some t) where

@@ -84,7 +84,7 @@ module _ {types : List TypeForm} {variables : List VariableForm} {outer : Outsid
 
 -- Objects are stored there, and where nothing is hidden.
 sane_hidden : {under : List Id} {items : List Item} (bs : List ℕ) (o : Id) (x : Object) → Sane under items o x → Sane under items o (blank_object bs x)
-sane_hidden bs o x h = record { back_gone = h.back_gone; listed_exists = h.listed_exists; there_exists = h.there_exists; housed = h.housed; out_listed = h.out_listed }
+sane_hidden bs o x h = record { back_unlisted = h.back_unlisted; listed_exists = h.listed_exists; there_exists = h.there_exists; housed = h.housed; out_listed = h.out_listed }
 
 pub stored_hidden : {under : List Id} {heap : List Object} {ms : List Master} (w : View) (x : Object) → object_at heap w.object ≡ Some x → Stored under heap ms → Stored under (blanked w heap) ms
 stored_hidden {under} {heap} {ms} w x found s =
@@ -100,7 +100,7 @@ module _ {under : List Id} (heap : List Object) (ms : List Master) (w : View) wh
           let found' : object_at heap w.object ≡ Some z = rw here at at in
           let is : z ≡ x = cc (found, found') in
           let h = s.sane w.object (blank_object (watched w) x) (set_here heap w.object.0 x (blank_object (watched w) x) found) in
-          rw (here, is) (record { back_gone = h.back_gone; listed_exists = h.listed_exists; there_exists = h.there_exists; housed = h.housed; out_listed = h.out_listed })
+          rw (here, is) (record { back_unlisted = h.back_unlisted; listed_exists = h.listed_exists; there_exists = h.there_exists; housed = h.housed; out_listed = h.out_listed })
       go p z at (inr ne) = s.sane p z (rw (set_other heap w.object.0 p.0 (blank_object (watched w) x) ne) at)
 
   shown_by : (t : Option Object) → object_at heap w.object ≡ t → Stored under (changed (blank_object (watched w)) t heap w.object) ms → Stored under heap ms

@@ -7,7 +7,6 @@ use Rattle.std.proofs.lemmas.Bool.{eqb-true, eq-eqb}
 use Rattle.ada_program.specs.ProgramForm.{TypeForm}
 use Rattle.ada_program.specs.WellFormed.{is_access}
 use Rattle.ada_meaning.specs.declared.state.Id.{Id}
-use Rattle.ada_meaning.specs.declared.state.Stage.TheVariants.{Existing}
 use Rattle.ada_meaning.specs.State.{Owned, declared, collection, record_object, storage_pool, Item, Master, Destination, destination, collection_in, home_among, home_of, pool_freed_to}
 use Rattle.ada_meaning.specs.Step.{same_pool}
 use Rattle.ada_meaning.specs.Named.{all_alive, Object, object_at}
@@ -16,7 +15,7 @@ use Rattle.ada_scopes.specs.Scopes.{type_collected, CollectTwoTypes}
 use Rattle.ada_sound.proofs.Fits.{Outsiders, IsOwnedOutside}
 use Rattle.ada_sound.proofs.Items.{Houses, HasItem}
 use Rattle.ada_sound.proofs.Standing.{AllStand}
-use Rattle.ada_sound.proofs.Stored.{IsUnder, Stored, exists_out}
+use Rattle.ada_sound.proofs.Stored.{HasDeparted, IsUnder, Stored}
 use Rattle.ada_owners.specs.Places.{is_there}
 
 -- The newest collection of an access type among all items.
@@ -81,9 +80,9 @@ same_one (Some n) (Some m) e = eq-eqb n m (cc e)
 abbrev pub Pooled : List TypeForm → List Object → Type 0
 Pooled types heap = (o : Id) (object : Object) → object_at heap o ≡ Some object → is_access types object.cell.access ≡ true → (pool : ℕ) × (object.cell.home.pool ≡ Some pool)
 
--- An object that is under way is of no type of which objects may be freed next.
+-- An object that is under way, or has gone with its collection, is of no type of which objects may be freed next.
 abbrev pub NoneIsUnder : (may : ℕ → Bool) → (under : List Id) → List Object → Type 0
-NoneIsUnder may under heap = (o : Id) (x : Object) → IsUnder under o → object_at heap o ≡ Some x → may x.cell.access ≡ false
+NoneIsUnder may under heap = (o : Id) (x : Object) → IsUnder under o ⊎ HasDeparted heap o x → object_at heap o ≡ Some x → may x.cell.access ≡ false
 
 -- Objects of access types are from pools, and no access type has two open collections; and those of the types of which objects may be freed next, which are in
 -- their collections and not owned outside, have the values of all their parts. None of these types is that of an object under way.
@@ -96,17 +95,20 @@ pub record HaveHomes (may : ℕ → Bool) (types : List TypeForm) (outer : Outsi
 -- So one of these that is there and not owned outside is in its collection, and has the values of all its parts.
 pub stands_there : {may : ℕ → Bool} {types : List TypeForm} {outer : Outsiders} {heap : List Object} {masters : List Master} (o : Id) (x : Object) → HaveHomes may types outer heap masters → Stored outer.under heap masters → object_at heap o ≡ Some x → is_there x.stage ≡ true → is_access types x.cell.access ≡ true → may x.cell.access ≡ true → (IsOwnedOutside outer o → ⊥) → (x.listed ≡ true) × (all_alive x.cell.parts ≡ true)
 stands_there {outer = outer} o x homes stored found there is freely inside =
-    let exists = (stored.sane o x found).there_exists there in
-    let listed = by ((stored.sane o x found).out_listed (exists_out o x found exists stored)) in
+    let listed = by ((stored.sane o x found).out_listed (out x.out refl)) in
     (listed, homes.stand o x found listed is freely inside)
   where
+    out : (b : Bool) → x.out ≡ b → x.out ≡ true
+    out true e = e
+    out false e = let other = homes.aside o x (inr (record { found = found; there = there; back = e })) found in absurd (cc (freely, other))
+
     by : (x.listed ≡ true) ⊎ IsUnder outer.under o → x.listed ≡ true
     by (inl listed) = listed
-    by (inr one) = let other = homes.aside o x one found in absurd (cc (freely, other))
+    by (inr one) = let other = homes.aside o x (inl one) found in absurd (cc (freely, other))
 
 -- What is freed by the instance for its own access type goes back to its own pool.
-pub freed_home : {may : ℕ → Bool} {outer : Outsiders} {types : List TypeForm} {heap : List Object} {masters : List Master} (access : ℕ) (o : Id) (x : Object) → HaveHomes may types outer heap masters → Stored outer.under heap masters → object_at heap o ≡ Some x → x.stage ≡ Existing → is_access types x.cell.access ≡ true → x.cell.access ≡ access → Some (pool_freed_to (home_of access masters)) ≡ x.cell.home.pool
-freed_home {masters = masters} access o x homes stored found exists is own =
+pub freed_home : {may : ℕ → Bool} {outer : Outsiders} {types : List TypeForm} {heap : List Object} {masters : List Master} (access : ℕ) (o : Id) (x : Object) → HaveHomes may types outer heap masters → Stored outer.under heap masters → object_at heap o ≡ Some x → x.out ≡ true → is_access types x.cell.access ≡ true → x.cell.access ≡ access → Some (pool_freed_to (home_of access masters)) ≡ x.cell.home.pool
+freed_home {masters = masters} access o x homes stored found out is own =
     let from = homes.pooled o x found is in
-    let housed : HasItem x.cell.home.item access (Some from.0) (items_of masters) = rw (own, from.1) at ((stored.sane o x found).housed (exists_out o x found exists stored)) in
+    let housed : HasItem x.cell.home.item access (Some from.0) (items_of masters) = rw (own, from.1) at ((stored.sane o x found).housed out) in
     ap Some (ap pool_freed_to (home_in access masters) ∙ among x.cell.home.item access from.0 (items_of masters) homes.lone housed) ∙ sym from.1

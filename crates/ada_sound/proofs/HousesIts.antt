@@ -11,7 +11,7 @@ use Rattle.ada_meaning.specs.Named.{Object}
 use Rattle.ada_reaching.specs.Law.{FirstHousesIts, InnermostHousesIts, NewestHousesIts}
 use Rattle.ada_sound.proofs.Invariant.{Control}
 use Rattle.ada_sound.proofs.Items.{houses_type, newest_is}
-use Rattle.ada_sound.proofs.Stored.{Stored, exists_out}
+use Rattle.ada_sound.proofs.Stored.{Stored, listed_out}
 
 -- The item of a number is the only one, so that the newest item is the home of its members.
 newest_houses_its : {under : List Id} (heap : List Object) (m : Master) (ms : List Master) (is : List Item) → m.items ≡ is → Stored under heap (m ∷ ms)
@@ -20,7 +20,7 @@ newest_houses_its heap m ms [] items stored = tt
 newest_houses_its heap m ms (i ∷ is) items stored = λ o x found member.
     let both = and_parts x.listed (x.cell.home.item == i.number) member in
     let sane = stored.sane o x found in
-    let housed = sane.housed (exists_out o x found (sane.listed_exists both.0) stored) in
+    let housed = sane.housed (listed_out o x found both.0 stored) in
     houses_type i.owned x.cell.access x.cell.home.pool
     (newest_is x.cell.home.item x.cell.access x.cell.home.pool i (is ++ items_of ms) (eqb-true x.cell.home.item i.number both.1) (rw items at stored.counted)
     (rw items at housed))

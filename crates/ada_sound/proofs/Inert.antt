@@ -1,11 +1,9 @@
 -- Where records are inert, neither Adjust nor Finalize is called for them, nor for what lies in them (7.6), whatever is left of a treatment.
 
-use Rattle.std.proofs.Common.{◌≡◌, ℕ, Bool, true, false, List, Option, Some, None, refl, sym, ap, ◌∙◌, subst}
+use Rattle.std.proofs.Common.{◌≡◌, ℕ, true, List, Option, Some, None, refl, sym, ap, ◌∙◌, subst}
 use Rattle.std.specs.Prelude.{◌&&◌}
 use Rattle.std.proofs.lemmas.Bool.{and_parts}
 use Rattle.ada_meaning.proofs.Places.{is_declared, numbers_are_alone, types_have_their_operations}
-use Rattle.ada_parts.specs.declared.tasks.Next.TheVariants.{Perform}
-use Rattle.ada_parts.specs.Task.{Task, next as task_next}
 use Rattle.ada_program.specs.Controlled.{number_in, number_of, operations_of, procedure_number}
 use Rattle.ada_program.specs.declared.program.Finalization.{Finalization}
 use Rattle.ada_program.specs.declared.program.Operations.{Operations}
@@ -17,7 +15,6 @@ use Rattle.ada_quiet.proofs.CalmTypes.{calm_is_told_within}
 use Rattle.ada_quiet.specs.Calm.{inert_types, is_known_calm}
 use Rattle.ada_sound.proofs.Allowance.{allowance_of}
 use Rattle.ada_sound.proofs.AssignedParts.{found_in}
-use Rattle.ada_sound.proofs.FrugalControl.{AreInert}
 use Rattle.ada_sound.proofs.FrugalSteps.{CallsNothing, StaysInert}
 use Rattle.ada_sound.proofs.InsideRecords.{Inside, itself, within, next_inside, picked_inside}
 

@@ -1,6 +1,6 @@
 -- What every step keeps: control typed by its flow, places that fit, objects that are stored.
 
-use Rattle.std.proofs.Common.{◌≡◌, ◌≢◌, ℕ, zero, suc, ◌≤◌, Bool, true, false, ◌&&◌, ◌||◌, List, [], ◌∷◌, ◌++◌, length, take, drop, reverse, ◌⊎◌, inl, inr}
+use Rattle.std.proofs.Common.{◌≡◌, ◌≢◌, ℕ, zero, suc, ◌≤◌, Bool, true, false, not, ◌&&◌, ◌||◌, List, [], ◌∷◌, ◌++◌, length, take, drop, reverse, ◌⊎◌, inl, inr}
 use Rattle.std.specs.Prelude.{ℤ, Option, Some, None}
 use Rattle.ada_text.specs.declared.spot.Spot.{Spot}
 use Rattle.std.specs.List.{list_any, slice_get, slice_index_or, slice_set}
@@ -45,12 +45,13 @@ use Rattle.ada_meaning.specs.Law.{leaving_by, LeavesHome}
 use Rattle.ada_sound.specs.Agreement.{Turning, Comes, ComesBy, ComesTo}
 use Rattle.ada_sound.proofs.Items.{NoMaster}
 use Rattle.ada_sound.proofs.Stored.{IsUnder, Stored}
+use Rattle.ada_scopes.specs.Scopes.{is_declared_object}
 use Rattle.ada_owners.specs.Reliance.{Borrows}
 use Rattle.ada_owners.specs.Keeping.{IsThere}
 use Rattle.ada_owners.specs.Places.{access_at, is_there, component_in}
 use Rattle.ada_owners.proofs.Ends.{IsUnnamed}
 use Rattle.ada_owners.specs.Walks.{walk}
-use Rattle.ada_sound.proofs.Fits.{Outer, Reference, IsReferred, IsPlace, Outsiders, NamesOwnedOutside, NoOuterAlias, IsSaid, place_at, Fit, IsRelied, IsUnreferred, MayFollow, component_access, is_object, hold_in, stacked, none_spared, sparing, outer_hold, outer_value}
+use Rattle.ada_sound.proofs.Fits.{Outer, Reference, IsReferred, IsPlace, Outsiders, NamesOwnedOutside, NoOuterAlias, IsSaid, place_at, Fit, IsRelied, IsUnreferred, MayFollow, component_access, is_object, hold_in, stacked, none_spared, some_ahead, sparing, outer_hold, outer_value}
 use Rattle.ada_sound.proofs.Orderings.{AsGood}
 use Rattle.ada_sound.proofs.InsideRecords.{TasksInside}
 use Rattle.ada_typed.specs.Holding.{PartsLie}
@@ -1112,8 +1113,8 @@ abbrev pub innermost : List Master → List Item
 innermost [] = []
 innermost (m ∷ ms) = m.items
 
--- The same while the innermost master is being left: nothing relies on the components of what lies in its collections in front of the first item for whose objects
--- an operation may be called that touches storage.
+-- The same while the innermost master is being left: nothing relies on the components of what lies in its collections, once no operation is called for any of it
+-- that touches storage.
 pub record Parting (known : Known) (heap : List Object) (places : List Value) (masters : List Master) (more : Rooms → Holds → Type 0) : Type 0 where
   pub rooms : Rooms
   pub holds : Holds
@@ -1184,17 +1185,11 @@ abbrev pub IsNewest : (number : ℕ) → List Item → Type 0
 IsNewest number [] = ⊥
 IsNewest number (i ∷ is) = i.number ≡ number
 
--- An item is a collection.
-abbrev pub is_collection : Owned → Bool
-is_collection (declared x) = false
-is_collection (collection access pool) = true
-is_collection (record_object t) = false
-is_collection (storage_pool declaration number) = false
-
--- The newest of these items is a collection for whose objects an operation may be called that touches storage: while that goes, components may name what has gone.
+-- The newest of these items is no declared object, and for the objects of one of them an operation may be called that touches storage: while collections go up to
+-- that one, components may name what has gone.
 abbrev pub departs : (ahead : Owned → Bool) → List Item → Bool
 departs ahead [] = false
-departs ahead (i ∷ is) = is_collection i.owned && ahead i.owned
+departs ahead (i ∷ is) = not (is_declared_object i.owned) && some_ahead ahead (i ∷ is)
 
 -- In the midst of that, a member is taken next, or one ends that has been finalized.
 abbrev pub departs_next : (departs : Bool) → Control → Bool
@@ -1207,23 +1202,31 @@ abbrev pub UnderIsUnreferred : Known → (under : Option Id) → Type 0
 UnderIsUnreferred known None = Unit {0}
 UnderIsUnreferred known (Some o) = IsUnreferred (outers known) o
 
--- What is left of a master behind an object under way. While a collection goes for whose objects such operations may be called, components may name the object.
+-- What each variable is relied on to name has its home in an item of these masters.
+abbrev pub NamesLow : List Object → List Value → List Master → Holds → Type 0
+NamesLow heap places masters holds =
+    (x : ℕ) (o : Id) (object : Object) → IsRelied (hold_at holds x) → place_at places x ≡ Names o → object_at heap o ≡ Some object
+    → suc object.cell.home.item ≤ height masters
+
+-- What is left of a master behind an object under way. While collections go up to one for whose objects such operations may be called, components may name the
+-- object, and what has gone; but no variable is relied on to name what has gone with an earlier one.
 abbrev pub LeavesTo : Known → (under : Option Id) → List Object → List Value → List Master → Control → Type 0
 LeavesTo known under heap places masters [] = ⊥
 LeavesTo known under heap places masters (Leaves mode ∷ k) =
     ((departs known.ahead (innermost masters) ≡ false) × Freed known under (sparing known.ahead heap (innermost masters)) heap places masters (RunsOn known (Leaves mode ∷ k)))
     ⊎ ((departs known.ahead (innermost masters) ≡ true) × UnderIsUnreferred known under
-    × Freed known None (sparing known.ahead heap (innermost masters)) heap places masters (RunsOn known (Leaves mode ∷ k)))
+    × Freed known None (sparing known.ahead heap (innermost masters)) heap places masters (λ rooms holds.
+    RunsOn known (Leaves mode ∷ k) rooms holds × NamesLow heap places masters holds))
 LeavesTo known under heap places masters (f ∷ k) = ⊥
 
 -- What goes on came out of the initialization of an object of this type (7.6).
 abbrev pub CameOut : Known → (access : ℕ) → Mode → Type 0
 CameOut known access mode = (e : Exception) × (mode ≡ Raising e) × (list_any (is_same e) (known.implicit.start_raises access) ≡ true)
 
--- An object under way is of this type, if there is one.
+-- An object under way is of this type, if there is one, and its words are out.
 abbrev pub UnderIs : List Object → (under : Option Id) → (access : ℕ) → Type 0
 UnderIs heap None access = Unit {0}
-UnderIs heap (Some o) access = (object : Object) × (object_at heap o ≡ Some object) × (object.cell.access ≡ access)
+UnderIs heap (Some o) access = (object : Object) × (object_at heap o ≡ Some object) × (object.cell.access ≡ access) × (object.out ≡ true)
 
 abbrev pub ResumesTo : Known → (under : Option Id) → List Object → List Value → List Master → Control → Type 0
 ResumesTo known under heap places masters [] = ⊥
@@ -1250,6 +1253,7 @@ pub record Ending (known : Known) (o : Id) (k : Control) (heap : List Object) (p
   pub object : Object
   pub found : object_at heap o ≡ Some object
   pub exists : object.stage ≡ Existing
+  pub out : object.out ≡ true
   pub parted : object.listed ≡ false
   pub stored : Stored (o ∷ (outers known).under) heap masters
   pub covered : WillBeCovered known.implicit known.program object.cell.access k
@@ -1471,10 +1475,14 @@ UndoneTo known v k heap places masters e =
     × (((known.touches access ≡ false) × Freed known None none_spared (on_object finished heap v) places masters (λ rooms holds. To ((ways known k rooms).raised e) holds))
     ⊎ Freed known (Some o) none_spared heap places masters (λ rooms holds. To ((ways known k rooms).raised e) holds × BeginsWell known access holds))
 
--- A new object may be undone, where an exception comes out of its initialization (7.6, 7.6.1).
+-- The words of the object that a value names are out.
+abbrev pub IsOut : List Object → Value → Type 0
+IsOut heap v = (o : Id) (x : Object) → v ≡ Names o → object_at heap o ≡ Some x → x.out ≡ true
+
+-- A new object may be undone, where an exception comes out of its initialization (7.6, 7.6.1). Its words are out.
 abbrev pub MayUndo : Known → Value → Control → List Object → List Value → List Master → Type 0
 MayUndo known v k heap places masters =
-    Stored (outers known).under heap masters × ((e : Exception) → StartsRaise known heap v e → UndoneTo known v k heap places masters e)
+    Stored (outers known).under heap masters × ((e : Exception) → StartsRaise known heap v e → UndoneTo known v k heap places masters e) × IsOut heap v
 
 -- Behind a finalization stands the end of the object, or, where it is that of a record that is assigned to, the copy (5.2, 7.6.1).
 abbrev pub EndsBy : Known → Value → Cause → Control → List Object → (places operands : List Value) → List Master → Type 0
@@ -1709,17 +1717,26 @@ AreSuspended [] (w ∷ ws) = ⊥
 AreSuspended (a ∷ rest) [] = ⊥
 AreSuspended (a ∷ rest) (w ∷ ws) = (a.places ≡ w.places) × AreSuspended rest ws
 
+-- One of these waits for the body of an operation.
+abbrev pub OneAwaits : List Caller → Type 0
+OneAwaits [] = ⊥
+OneAwaits (w ∷ ws) = IsAwaited w.control ⊎ OneAwaits ws
+
+-- An object is found, and has its home below a number of items; or its words are back, and something is so around.
+abbrev pub LiesBelow : List Object → (items : ℕ) → (around : Type 0) → Id → Type 0
+LiesBelow heap items around o =
+    (object : Object) × (object_at heap o ≡ Some object) × ((suc object.cell.home.item ≤ items) ⊎ ((object.out ≡ false) × around))
+
 -- What a caller's variable is relied on to name, what its call refers to, what is under way in it, and what an operation is called for that it waits for lies
--- in an item of a master that was entered before its call.
+-- in an item of a master that was entered before its call; or, where an operation runs around the call, it may be what has gone with its collection.
 abbrev pub LieBelow : List Object → List Caller → Type 0
 LieBelow heap [] = Unit {0}
 LieBelow heap (w ∷ ws) =
-    ((x : ℕ) (o : Id) → IsRelied (hold_at (waiting_holds w) x) → place_at w.places x ≡ Names o
-    → (object : Object) × (object_at heap o ≡ Some object) × (suc object.cell.home.item ≤ height w.masters))
-    × ((o : Id) (t : ℕ) → IsReferred w.referenced o t → (object : Object) × (object_at heap o ≡ Some object) × (suc object.cell.home.item ≤ height w.masters))
+    ((x : ℕ) (o : Id) → IsRelied (hold_at (waiting_holds w) x) → place_at w.places x ≡ Names o → LiesBelow heap (height w.masters) (OneAwaits ws) o)
+    × ((o : Id) (t : ℕ) → IsReferred w.referenced o t → LiesBelow heap (height w.masters) (OneAwaits ws) o)
     × ((o : Id) → IsUnder w.under o → (object : Object) × (object_at heap o ≡ Some object) × (suc object.cell.home.item ≤ height w.masters))
     × LieBelow heap ws
-    × ((x : ℕ) (o : Id) → IsRelied (outer_hold w.held x) → outer_value w.held x ≡ Names o → (object : Object) × (object_at heap o ≡ Some object) × (suc object.cell.home.item ≤ height w.masters))
+    × ((x : ℕ) (o : Id) → IsRelied (outer_hold w.held x) → outer_value w.held x ≡ Names o → LiesBelow heap (height w.masters) (OneAwaits ws) o)
 
 -- The callers of a state are as they are known.
 pub record Standing (known : Known) (s : State) : Type 0 where
@@ -1742,13 +1759,13 @@ pub record GoesBack (implicit : Implicit) (p : ProgramForm) (cause : Cause) (v :
   pub covered : IsCovered implicit p cause access
   pub back : BackIn after.heap id
 
--- An object is followed whose words are out.
+-- An object is followed that is there.
 pub record IsFollowed (v : Value) (before : List Object) : Type 0 where
   pub id : Id
   pub object : Object
   pub is : v ≡ Names id
   pub found : object_at before id ≡ Some object
-  pub out : object.out ≡ true
+  pub there : is_there object.stage ≡ true
 
 -- What an event of a body says of the objects before it and of the state after it.
 abbrev pub Says : Implicit → ProgramForm → Event → List Object → State → Type 0

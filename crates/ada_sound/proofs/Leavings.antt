@@ -1,8 +1,8 @@
 -- Behind a block its collections are gone: what is known of variables, and that a member that is taken has no owner.
 
-use Rattle.std.proofs.Common.{◌≡◌, ◌≢◌, ℕ, zero, suc, Bool, true, false, ◌||◌, ◌&&◌, not, List, [], ◌∷◌, ◌++◌, refl, sym, ap, ◌∙◌, ◌⊎◌, inl, inr, arith}
-use Rattle.std.proofs.lemmas.Bool.{eq-eqb, eqb-true}
-use Rattle.std.specs.Prelude.{Option, Some, None, ◌==◌, if◌then◌else◌}
+use Rattle.std.proofs.Common.{◌≡◌, ◌≢◌, ℕ, zero, suc, Bool, true, false, ◌||◌, ◌&&◌, not, List, [], ◌∷◌, ◌++◌, refl, sym, ap, ◌∙◌, ◌⊎◌, inl, inr}
+use Rattle.std.proofs.lemmas.Bool.{eq-eqb}
+use Rattle.std.specs.Prelude.{Option, Some, None, if◌then◌else◌}
 use Rattle.std.specs.List.{slice_get, slice_set, slice_index_or}
 use Rattle.ada_program.specs.ProgramForm.{TypeForm, VariableForm}
 use Rattle.ada_program.specs.WellFormed.{kind_among, access_of, is_this, reached_components}
@@ -14,18 +14,17 @@ use Rattle.ada_meaning.specs.declared.state.Value.{Value}
 use Rattle.ada_meaning.specs.declared.state.Value.TheVariants.{Null, Names}
 use Rattle.ada_meaning.specs.State.{Item, Master, Owned}
 use Rattle.ada_meaning.specs.Named.{Object, object_at}
-use Rattle.ada_meaning.specs.Law.{items_of}
-use Rattle.ada_scopes.specs.Scopes.{is_innermost, is_number_of}
+use Rattle.ada_scopes.specs.Scopes.{is_declared_object, is_innermost, is_number_of}
 use Rattle.ada_owners.specs.Places.{is_there, Place, variable, component, elsewhere, component_in, value_at, access_at}
 use Rattle.ada_owners.specs.Reliance.{component_kind, IsOf, Says, Owns, Borrows, component_hold}
 use Rattle.ada_owners.proofs.Ends.{IsUnnamed}
-use Rattle.ada_sound.proofs.Fits.{IsReferred, IsUnreferred, Outsiders, Fit, IsRelied, outer_hold, hold_in, stacked, outer_value, outer_value_at, place_at, in_front, from_ahead, sparing, kinds_of, lies_among, hand_is_unnamed}
-use Rattle.ada_sound.proofs.Items.{Counted, HasItem, Houses, item_below}
-use Rattle.ada_sound.proofs.Stored.{IsUnder, Stored, exists_out}
+use Rattle.ada_sound.proofs.Fits.{IsReferred, IsUnreferred, Outsiders, Fit, IsRelied, outer_hold, hold_in, stacked, outer_value, outer_value_at, place_at, behind_all, some_ahead, sparing, kinds_of, lies_among, hand_is_unnamed}
+use Rattle.ada_sound.proofs.Items.{HasItem, Houses}
+use Rattle.ada_sound.proofs.Stored.{AllOut, IsUnder}
 use Rattle.ada_sound.proofs.Orderings.{AsGood, as_good, good_here, good_lost, good_losing, good_to_lost}
 use Rattle.ada_sound.proofs.Raising.{both}
 use Rattle.ada_sound.proofs.Values.{read_other, same_or_not, lost_here}
-use Rattle.ada_sound.proofs.Invariant.{AllAmong, NamesNone, departs, is_collection}
+use Rattle.ada_sound.proofs.Invariant.{AllAmong, NamesNone, departs}
 
 -- What a variable holds behind a block: what it did, if it is of another access type; else it is lost.
 abbrev LeftBy : Bool → (before after : Hold) → Type 0
@@ -198,9 +197,10 @@ HoldsThere heap holder held =
     (o : Id) × (p : Id) × (c : ℕ) × ((object_at heap o ≡ Some holder) × (is_there holder.stage ≡ true)) × ((object_at heap p ≡ Some held) × (is_there held.stage ≡ true))
     × (slice_get holder.cell.values c ≡ Some (Names p))
 
--- While a master is left, whatever object holds the name of one whose home is an item of the innermost master has its own home there.
+-- While a master is left, whatever object holds the name of one whose words are out, and whose home is an item of the innermost master, has its own home there.
 abbrev pub HeldIn : List Object → List Master → Type 0
-HeldIn heap ms = (holder held : Object) → HoldsThere heap holder held → is_innermost ms held.cell.home.item ≡ true → is_innermost ms holder.cell.home.item ≡ true
+HeldIn heap ms =
+    (holder held : Object) → HoldsThere heap holder held → held.out ≡ true → is_innermost ms held.cell.home.item ≡ true → is_innermost ms holder.cell.home.item ≡ true
 
 -- What a list holds that is a name.
 pub get_named : (vs : List Value) (c : ℕ) (o : Id) → slice_index_or vs c Null ≡ Names o → slice_get vs c ≡ Some (Names o)
@@ -244,81 +244,26 @@ HoldNone types t [] = Unit {0}
 HoldNone types t (i ∷ is) =
     ((v : ℕ) (pool : Option ℕ) → Houses i.owned v pool → (c : ℕ) → access_of (kind_among (reached_components types v) c) ≡ Some t → ⊥) × HoldNone types t is
 
--- The newest item goes: no objects have a component of the type of its own ones, from the first older item on for whose objects an operation may be called that
--- touches storage.
-abbrev pub GoesInOrder : (ahead : Owned → Bool) → List TypeForm → Item → List Item → Type 0
-GoesInOrder ahead types item items =
-    (access : ℕ) (pool : Option ℕ) → Houses item.owned access pool → HoldNone types access (from_ahead ahead items)
-
--- The newest item, which is no collection, goes: no objects have a component of the type of its own ones.
+-- The newest item, which is a declared object, goes: no objects have a component of the type of its own one.
 abbrev pub NamesNoObject : List TypeForm → Item → Type 0
 NamesNoObject types item =
-    is_collection item.owned ≡ false → (access : ℕ) (pool : Option ℕ) → Houses item.owned access pool
+    is_declared_object item.owned ≡ true → (access : ℕ) (pool : Option ℕ) → Houses item.owned access pool
     → (v c : ℕ) → access_of (kind_among (reached_components types v) c) ≡ Some access → ⊥
 
--- So it is with the newest one of these items, if there is one.
-abbrev pub AreInOrder : (ahead : Owned → Bool) → List TypeForm → List Item → Type 0
-AreInOrder ahead types [] = Unit {0}
-AreInOrder ahead types (i ∷ is) = GoesInOrder ahead types i is × NamesNoObject types i
+-- So it is with the newest one of these items, if there is one; and if that is no declared object, the words of all that is there are out.
+abbrev pub GoesWell : List TypeForm → List Object → List Item → Type 0
+GoesWell types heap [] = Unit {0}
+GoesWell types heap (i ∷ is) = NamesNoObject types i × (is_declared_object i.owned ≡ false → AllOut heap)
 
--- No objects have a component of a type that no component is of.
-none_hold : (types : List TypeForm) (t : ℕ) → ((v c : ℕ) → access_of (kind_among (reached_components types v) c) ≡ Some t → ⊥) → (is : List Item) → HoldNone types t is
-none_hold types t none [] = tt
-none_hold types t none (i ∷ is) = (λ v pool houses c. none v c, none_hold types t none is)
-
--- Where the newest item is no collection for whose objects such an operation may be called, no objects have a component of the type of its own ones, from the first
--- item on for whose objects one may be called.
-pub stays_ordered : (ahead : Owned → Bool) (types : List TypeForm) (item : Item) (items : List Item) → departs ahead (item ∷ items) ≡ false → AreInOrder ahead types (item ∷ items)
-    → (access : ℕ) (pool : Option ℕ) → Houses item.owned access pool → HoldNone types access (from_ahead ahead (item ∷ items))
-stays_ordered ahead types item items stays order access pool houses = by (is_collection item.owned) refl stays
-  where
-    by : (b : Bool) → is_collection item.owned ≡ b → (b && ahead item.owned) ≡ false → HoldNone types access (from_ahead ahead (item ∷ items))
-    by true is none = rw none (order.0 access pool houses)
-    by false is none = none_hold types access (order.1 is access pool houses) (from_ahead ahead (item ∷ items))
-
--- What a variable of a suspended activation is relied on to name, what a call refers to, and what is under way has no home in the innermost master.
+-- What a variable of a suspended activation is relied on to name, what a call refers to, and what is under way has no home in the innermost master, if its words
+-- are out.
 abbrev pub NamedBelow : Outsiders → List Object → List Master → Type 0
 NamedBelow outer heap ms =
     ((d x : ℕ) (o : Id) (object : Object) → IsRelied (outer_hold (slice_get outer.suspended d) x) → outer_value (slice_get outer.suspended d) x ≡ Names o
-    → object_at heap o ≡ Some object → is_innermost ms object.cell.home.item ≡ true → ⊥)
-    × ((o : Id) (t : ℕ) (object : Object) → IsReferred outer.referenced o t → object_at heap o ≡ Some object
+    → object_at heap o ≡ Some object → object.out ≡ true → is_innermost ms object.cell.home.item ≡ true → ⊥)
+    × ((o : Id) (t : ℕ) (object : Object) → IsReferred outer.referenced o t → object_at heap o ≡ Some object → object.out ≡ true
     → is_innermost ms object.cell.home.item ≡ true → ⊥)
-    × ((o : Id) (object : Object) → IsUnder outer.under o → object_at heap o ≡ Some object → is_innermost ms object.cell.home.item ≡ true → ⊥)
-
--- An item of this number among these is the home of what has its home there, as numbers fall.
-has_among : (n access : ℕ) (pool : Option ℕ) (is js : List Item) → Counted (is ++ js) → HasItem n access pool (is ++ js)
-    → is_number_of is n ≡ true → HasItem n access pool is
-has_among n access pool [] js counted has here = absurd (cc here)
-has_among n access pool (i ∷ is) js counted (inl e) here = inl e
-has_among n access pool (i ∷ is) js counted (inr has) here = by (i.number == n) refl (has_among n access pool is js counted.1 has) here
-  where
-    by : (b : Bool) → (i.number == n) ≡ b → (is_number_of is n ≡ true → HasItem n access pool is) → b || is_number_of is n ≡ true
-        → HasItem n access pool (i ∷ is)
-    by true same later here' =
-        let number : i.number ≡ n = eqb-true i.number n same in
-        let less = item_below n access pool (is ++ js) counted.1 has in
-        let count = counted.0 in
-        absurd (omega (arith, less, count, number))
-    by false other later here' = inr (later here')
-
--- So it is among those from the first one on that is ahead, if it is not in front of that one.
-pub has_behind : (ahead : Owned → Bool) (n access : ℕ) (pool : Option ℕ) (is js : List Item) → Counted (is ++ js) → HasItem n access pool (is ++ js)
-    → is_number_of is n ≡ true → is_number_of (in_front ahead is) n ≡ false → HasItem n access pool (from_ahead ahead is)
-has_behind ahead n access pool [] js counted has here behind = absurd (cc here)
-has_behind ahead n access pool (i ∷ is) js counted has here behind = by (ahead i.owned) refl (has_behind ahead n access pool is js counted.1)
-  where
-    on : (HasItem n access pool (is ++ js) → is_number_of is n ≡ true → is_number_of (in_front ahead is) n ≡ false → HasItem n access pool (from_ahead ahead is))
-        → HasItem n access pool (i ∷ (is ++ js)) → (b : Bool) → (i.number == n) ≡ b → b || is_number_of is n ≡ true
-        → b || is_number_of (in_front ahead is) n ≡ false → HasItem n access pool (from_ahead ahead is)
-    on later has' true same here' behind' = absurd (cc behind')
-    on later (inl e) false other here' behind' = let same = eq-eqb i.number n e.0 in absurd (cc (same, other))
-    on later (inr has') false other here' behind' = later has' here' behind'
-
-    by : (b : Bool) → ahead i.owned ≡ b
-        → (HasItem n access pool (is ++ js) → is_number_of is n ≡ true → is_number_of (in_front ahead is) n ≡ false → HasItem n access pool (from_ahead ahead is))
-        → HasItem n access pool (from_ahead ahead (i ∷ is))
-    by true first later = rw first (has_among n access pool (i ∷ is) js counted has here)
-    by false none later = rw none (on later has (i.number == n) refl here (rw none at behind))
+    × ((o : Id) (object : Object) → IsUnder outer.under o → object_at heap o ≡ Some object → object.out ≡ true → is_innermost ms object.cell.home.item ≡ true → ⊥)
 
 -- What has its home there has no component of that access type.
 pub none_held : (types : List TypeForm) (t n v : ℕ) (pool : Option ℕ) (is : List Item) → HoldNone types t is → HasItem n v pool is
@@ -327,9 +272,10 @@ none_held types t n v pool [] none has c is' = has
 none_held types t n v pool (i ∷ is) none (inl e) c is' = none.0 v pool e.1 c is'
 none_held types t n v pool (i ∷ is) none (inr has) c is' = none_held types t n v pool is none.1 has c is'
 
--- A member of the newest collection of the innermost master, of a type of which no variable is relied on to name an object, is in hand where nothing relies on the
--- components of that master's objects in front of those that an operation may be called for which touches storage.
-module _ (ahead : Owned → Bool) (types : List TypeForm) (variables : List VariableForm) (outer : Outsiders) (heap : List Object) (places : List Value) (holds : Holds) (number : ℕ) (item : Item) (items : List Item) (ms : List Master) (gone : List ℕ) (fit : Fit types variables outer (sparing ahead heap (item ∷ items)) heap places holds) (under : List Id) (stored : Stored under heap (record { number = number; items = item ∷ items } ∷ ms)) (none : NamesNone variables gone holds) (held : HeldIn heap (record { number = number; items = item ∷ items } ∷ ms)) (below : NamedBelow outer heap (record { number = number; items = item ∷ items } ∷ ms)) (o : Id) (x : Object) (found : object_at heap o ≡ Some x) (there : is_there x.stage ≡ true) (home : x.cell.home.item ≡ item.number) (among : is_among gone (Some x.cell.access) ≡ true) (order : HoldNone types x.cell.access (from_ahead ahead (item ∷ items))) where
+-- A member of the newest item of the innermost master, of a type of which no variable is relied on to name an object, is in hand where nothing relies on the
+-- components of what lies in that master's collections, once no operation is called for any of it that touches storage.
+module _ (ahead : Owned → Bool) (types : List TypeForm) (variables : List VariableForm) (outer : Outsiders) (heap : List Object) (places : List Value) (holds : Holds) (number : ℕ) (item : Item) (items : List Item) (ms : List Master) (gone : List ℕ) (fit : Fit types variables outer (sparing ahead heap (item ∷ items)) heap places holds) (none : NamesNone variables gone holds) (held : HeldIn heap (record { number = number; items = item ∷ items } ∷ ms)) (below : NamedBelow outer heap (record { number = number; items = item ∷ items } ∷ ms)) (o : Id) (x : Object) (found : object_at heap o ≡ Some x) (there : is_there x.stage ≡ true) (out : x.out ≡ true) (home : x.cell.home.item ≡ item.number) (among : is_among gone (Some x.cell.access) ≡ true)
+    (houses : Houses item.owned x.cell.access x.cell.home.pool) (stays : departs ahead (item ∷ items) ≡ false) (well : GoesWell types heap (item ∷ items)) where
   access_here : access_at heap o ≡ Some x.cell.access
   access_here = rw (found, there) refl
 
@@ -358,39 +304,37 @@ module _ (ahead : Owned → Bool) (types : List TypeForm) (variables : List Vari
       let h = component_hold (sparing ahead heap (item ∷ items) p) in
       says_of heap h (component_kind (kinds_of types variables outer) (access_at heap p) c) o (owns_relied h own) (fit.owners.fit.relied (component p c) o names)
 
+  -- Where it is no declared object, no operation is called for any of what lies in the master.
+  all_behind : is_declared_object item.owned ≡ false → behind_all ahead (item ∷ items) ≡ item ∷ items
+  all_behind collected = by (is_declared_object item.owned) collected (some_ahead ahead (item ∷ items)) refl stays
+    where
+      by : (object : Bool) → object ≡ false → (some : Bool) → some_ahead ahead (item ∷ items) ≡ some → (not object && some_ahead ahead (item ∷ items)) ≡ false
+          → behind_all ahead (item ∷ items) ≡ item ∷ items
+      by true never some is stays' = absurd (cc never)
+      by false own true is stays' = absurd (let never : true ≡ false = rw is at stays' in cc never)
+      by false own false is stays' = rw is refl
+
   -- An object that names it lies in the same master: so it does not count, or it has no component of that type.
   no_holder : (p : Id) (c : ℕ) (t : Option Object) → object_at heap p ≡ t
-      → Owns (component_hold (lies_among t (in_front ahead (item ∷ items)))) → component_in t c ≡ Names o
+      → Owns (component_hold (lies_among t (behind_all ahead (item ∷ items)))) → component_in t c ≡ Names o
       → IsOf (access_at heap) (component_kind (kinds_of types variables outer) (access_at heap p) c) o → ⊥
   no_holder p c None at own names of = cc names
-  no_holder p c (Some holder) at own names of =
-      by (is_number_of (in_front ahead (item ∷ items)) holder.cell.home.item) refl own
+  no_holder p c (Some holder) at own names of = by (is_declared_object item.owned) refl
     where
       it : (is_there holder.stage ≡ true) × (slice_index_or holder.cell.values c Null ≡ Names o)
       it = there_names (is_there holder.stage) (slice_index_or holder.cell.values c Null) o names
 
       inside : is_number_of (item ∷ items) holder.cell.home.item ≡ true
-      inside = held holder x (p, o, c, (at, it.0), (found, there), get_named holder.cell.values c o it.1) (rw (eq-eqb item.number x.cell.home.item (sym home)) refl)
+      inside = held holder x (p, o, c, (at, it.0), (found, there), get_named holder.cell.values c o it.1) out (rw (eq-eqb item.number x.cell.home.item (sym home)) refl)
 
-      houses_it : HasItem holder.cell.home.item holder.cell.access holder.cell.home.pool ((item ∷ items) ++ items_of ms)
-      houses_it =
-          let sane = stored.sane p holder at in
-          sane.housed (exists_out p holder at (sane.there_exists it.0) stored)
-
-      behind : is_number_of (in_front ahead (item ∷ items)) holder.cell.home.item ≡ false
-          → HasItem holder.cell.home.item holder.cell.access holder.cell.home.pool (from_ahead ahead (item ∷ items))
-      behind away = has_behind ahead holder.cell.home.item holder.cell.access holder.cell.home.pool (item ∷ items) (items_of ms) stored.counted houses_it inside away
-
-      access_is : (u : ℕ) → access_at heap p ≡ Some u → holder.cell.access ≡ u
-      access_is u is = let own_access : access_at heap p ≡ Some holder.cell.access = rw (at, it.0) refl in cc (own_access, is)
-
-      by : (b : Bool) → is_number_of (in_front ahead (item ∷ items)) holder.cell.home.item ≡ b → Owns (component_hold b) → ⊥
-      by true near own' = own'
-      by false away own' =
+      by : (object : Bool) → is_declared_object item.owned ≡ object → ⊥
+      by true declared_so =
           no_kind c (access_at heap p) (component_kind (kinds_of types variables outer) (access_at heap p) c)
-          (λ u is named. none_held types x.cell.access holder.cell.home.item holder.cell.access holder.cell.home.pool (from_ahead ahead (item ∷ items))
-          order (behind away) c (rw (access_is u is) named))
-          refl of
+          (λ u is named. well.0 declared_so x.cell.access x.cell.home.pool houses u c named) refl of
+      by false collected =
+          let out_so = well.1 collected p holder at it.0 in
+          let lies : lies_among (Some holder) (behind_all ahead (item ∷ items)) ≡ true = rw (all_behind collected, out_so) inside in
+          rw lies at own
 
   no_name : (y : ℕ) → IsRelied (hold_at holds y) → place_at places y ≡ Names o → ⊥
   no_name y is names =
@@ -400,7 +344,7 @@ module _ (ahead : Owned → Bool) (types : List TypeForm) (variables : List Vari
   -- Nor does a suspended activation's variable name it.
   no_elsewhere : (d y : ℕ) → IsRelied (outer_hold (slice_get outer.suspended d) y) → value_at heap (stacked places outer) (elsewhere d y) ≡ Names o → ⊥
   no_elsewhere d y is names =
-      below.0 d y o x is (sym (outer_value_at heap places outer d y) ∙ names) found (rw (eq-eqb item.number x.cell.home.item (sym home)) refl)
+      below.0 d y o x is (sym (outer_value_at heap places outer d y) ∙ names) found out (rw (eq-eqb item.number x.cell.home.item (sym home)) refl)
 
   no_borrower : (q : Place) → Borrows (hold_in outer (sparing ahead heap (item ∷ items)) holds q) → value_at heap (stacked places outer) q ≡ Names o → ⊥
   no_borrower (variable y) b names = no_name y (borrows_relied (hold_at holds y) b) names
@@ -425,4 +369,4 @@ module _ (ahead : Owned → Bool) (types : List TypeForm) (variables : List Vari
 
   -- No call refers to it.
   pub taken_unreferred : IsUnreferred outer o
-  taken_unreferred t is = below.1 o t x is found (rw (eq-eqb item.number x.cell.home.item (sym home)) refl)
+  taken_unreferred t is = below.1 o t x is found out (rw (eq-eqb item.number x.cell.home.item (sym home)) refl)

@@ -191,6 +191,8 @@ pub mod OperationsLet
 mod FrugalUseFrees
 -- no object of its own access type is freed where an object ends, or is adjusted
 pub mod SparesOwn
+-- no object of a newer collection of a master is reached there
+pub mod SparesNewer
 -- no object is reached in which a component may lie that names what ends
 pub mod SparesHolders
 -- what is freed next is among what the running body may free
@@ -227,6 +229,8 @@ pub mod Jumps
 pub mod Touched
 -- what it is called for is held while it runs
 pub mod Held
+-- no object of an outer master has a component of the type of a collection of the innermost one
+pub mod HeldOutside
 pub mod Touching
 -- a body runs that touches no storage, around which such a one may be under way
 pub mod Operates
@@ -318,10 +322,6 @@ pub mod Starts
 pub mod Steps
 -- what holds of each state that may come next
 pub mod Coming
--- so are those of each declarative part
-pub mod PartsInOrder
--- in whole runs: the collections of each master are apart
-pub mod CollectsApart
 -- what goes where a master is left: no component names it of what an operation that touches storage may be called for later
 pub mod InOrder
 -- of which records a treatment speaks
@@ -455,6 +455,8 @@ pub mod ExampleMetering
 pub mod ExampleDuplicating
 pub mod ExamplePairing
 pub mod ExampleCopying
+-- one whose Finalize frees what lies in a newer collection
+pub mod ExampleNewer
 -- where flow is not agreed with
 pub mod ExampleInside
 -- where a statement begins
@@ -470,3 +472,5 @@ pub mod BareObjects
 pub mod CalmTypes
 -- objects for which no operation is called that touches storage, where they begin or end
 pub mod CalmObjects
+-- what exists has its words out
+pub mod WordsOut

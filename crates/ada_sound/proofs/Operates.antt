@@ -1,7 +1,7 @@
 -- The body of an operation runs that touches Integers and Booleans alone (7.6): no other one is under way, or one that touches storage is, in which the object
 -- is freed, allocated or undone.
 
-use Rattle.std.proofs.Common.{◌≡◌, ℕ, true, List, [], ◌∷◌, ◌++◌, ◌⊎◌}
+use Rattle.std.proofs.Common.{◌≡◌, ℕ, true, List, ◌∷◌, ◌++◌, ◌⊎◌}
 use Rattle.std.specs.Prelude.{Some}
 use Rattle.ada_program.specs.declared.program.Exception.{Exception}
 use Rattle.ada_program.specs.declared.program.Program.{Program}
@@ -22,9 +22,9 @@ use Rattle.ada_typed.proofs.Kept.{behind_call}
 use Rattle.ada_sound.specs.Callees.{IsCovered}
 use Rattle.ada_sound.proofs.Alters.{Alters}
 use Rattle.ada_sound.proofs.Bodies.{IsBody}
-use Rattle.ada_sound.proofs.Callers.{Suspension, known_in, Stands, callers_of}
+use Rattle.ada_sound.proofs.Callers.{AreCalls, Suspension, known_in, Stands}
 use Rattle.ada_sound.proofs.FrugalControl.{IsInside}
-use Rattle.ada_sound.proofs.Invariant.{Control, Says, TreatsBy, under_in}
+use Rattle.ada_sound.proofs.Invariant.{Control, Says, TreatsBy}
 use Rattle.ada_sound.proofs.Operating.{Body, IsCalm, WaitsFor, behind_operation, lets_out}
 use Rattle.ada_sound.proofs.Touching.{Within}
 
@@ -32,7 +32,7 @@ use Rattle.ada_sound.proofs.Touching.{Within}
 -- way, in which the object is freed, allocated or undone (13.11.2, 4.8, 7.6.1).
 abbrev pub AroundTreated : (program : Program) → Treatment → List Suspension → State → Type 0
 AroundTreated program treatment gs s =
-    (IsCalm (behind_call s.control) × (under_in (callers_of program gs) ≡ [])) ⊎ (IsInside treatment × Within program gs s)
+    (IsCalm (behind_call s.control) × (AreCalls gs)) ⊎ (IsInside treatment × Within program gs s)
 
 -- The object that an operation is called for is treated; and what waits for it goes on behind that, whatever the body does.
 pub record Suspended (program : Program) (object : Id) (treatment : Treatment) (caller : Activation Value) (rest : List (Activation Value)) (behind : Control) (lower : List Master) (s : State) : Type 0 where

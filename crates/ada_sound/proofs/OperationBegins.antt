@@ -45,9 +45,9 @@ use Rattle.ada_quiet.specs.Quiet.{holds_elementary}
 use Rattle.ada_sound.proofs.Alters.{Alters}
 use Rattle.ada_sound.proofs.Begins.{record_kind}
 use Rattle.ada_sound.proofs.Calm.{filled_in}
-use Rattle.ada_sound.proofs.Callers.{Suspension, known_in, Stands, callers_of}
+use Rattle.ada_sound.proofs.Callers.{AreCalls, Suspension, known_in, Stands}
 use Rattle.ada_sound.proofs.Fits.{IsWithin}
-use Rattle.ada_sound.proofs.Invariant.{Control, TreatsBy, under_in}
+use Rattle.ada_sound.proofs.Invariant.{Control, TreatsBy}
 use Rattle.ada_sound.proofs.OperationStarts.{places_hold, starts, calm_behind}
 use Rattle.ada_sound.proofs.Operating.{Sight, StaysLive, WaitsFor, IsCalled, IsCalm, PlainBody, IsScalar, Holds, HoldScalars, Body, lets_out, behind_operation}
 use Rattle.ada_sound.proofs.Operates.{AroundTreated, Operates}
@@ -229,7 +229,7 @@ module _ (program : Program) (number : ℕ) (b : BodyForm) (there : slice_get (b
 
 -- Where no operation runs behind the treatment, none runs behind the body.
 pub calm_around : (program : Program) (a : Activation Value) (rest : List (Activation Value)) (gs : List Suspension) (s : State) (k : Control) (IsOperated : Treatment → Id → ℕ → Type 0) (e : Event) (after : State)
-    → (c : Begins (known_in program a.procedure gs) a rest s program.types.items (body_forms program) k IsOperated e after) → IsCalm (behind_call k) → under_in (callers_of program gs) ≡ []
+    → (c : Begins (known_in program a.procedure gs) a rest s program.types.items (body_forms program) k IsOperated e after) → IsCalm (behind_call k) → AreCalls gs
     → AroundTreated program c.treatment gs (behind_operation (a ∷ rest) c.behind s.masters after)
 calm_around program a rest gs s k IsOperated e after c calm settled =
     inl (calm_behind (known_in program a.procedure gs).program.types c.o c.of c.treatment c.tasks k c.behind c.waits calm, settled)

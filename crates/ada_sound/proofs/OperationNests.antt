@@ -1,16 +1,16 @@
 -- What the frugal bodies of operations create nests wherever the main procedure's collections are open (7.6, 7.6.1, 3.10.2): they call procedures before them
 -- alone (6.4).
 
-use Rattle.std.proofs.Common.{◌≡◌, ℕ, zero, suc, ◌+◌, ◌<◌, Bool, true, false, ◌&&◌, List, [], ◌∷◌, ◌++◌, length, map, take, refl, sym, ap, ◌∙◌, subst, arith}
+use Rattle.std.proofs.Common.{◌≡◌, ℕ, zero, suc, ◌+◌, ◌<◌, Bool, true, false, List, [], ◌∷◌, ◌++◌, length, map, take, refl, ap, subst, arith}
 use Rattle.std.specs.List.{slice_get, slice_index_or}
-use Rattle.std.specs.Prelude.{Option, Some, None}
+use Rattle.std.specs.Prelude.{Option, Some}
 use Rattle.ada_deeds.proofs.RaisesKnown.{is_callable}
-use Rattle.ada_program.specs.Form.{StmtForm, skips, assigns, assigns_record, frees, gets, writes, writes_text, chooses, repeats, counts, exits, calls, returns, raises, encloses, StmtsForm, no_stmts, a_stmt, BranchesForm, otherwise, a_branch, HandlersForm, no_handlers, a_handler, DeclarationForm}
+use Rattle.ada_program.specs.Form.{StmtForm, skips, assigns, assigns_record, frees, gets, writes, writes_text, chooses, repeats, counts, exits, calls, returns, raises, encloses, StmtsForm, no_stmts, a_stmt, BranchesForm, otherwise, a_branch, HandlersForm, no_handlers, a_handler}
 use Rattle.ada_program.specs.Nested.{Callees, collected, call_nests, statement_nests, statements_nest, branches_nest, handlers_nest, body_nests, callees_from, callees_of}
 use Rattle.ada_program.specs.ProgramForm.{TypeForm, BodyForm, ProgramForm, VariableForm}
 use Rattle.ada_program.specs.WellFormed.{IsWellFormed, Profile, body_fits, profile_of, statement_fits, stmts_fit, branches_fit, handlers_fit}
 use Rattle.ada_quiet.proofs.FrugalAt.{operation_at}
-use Rattle.ada_quiet.specs.Frugal.{are_frugal_declarations, is_frugal_stmt, are_frugal, are_frugal_branches, are_frugal_handlers, is_frugal_body, Thrift, frugal_operations, frugal_procedures, thrift_of}
+use Rattle.ada_quiet.specs.Frugal.{is_frugal_stmt, are_frugal, are_frugal_branches, are_frugal_handlers, is_frugal_body, Thrift, frugal_operations, frugal_procedures, thrift_of}
 use Rattle.ada_sound.proofs.FrugalBodies.{HasAll, frugal_parts, frugal_nests, more_open, part_is}
 use Rattle.ada_sound.proofs.OperationStarts.{apart}
 use Rattle.ada_typed.proofs.Bodies.{body_at}

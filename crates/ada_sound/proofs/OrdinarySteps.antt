@@ -13,7 +13,7 @@ use Rattle.ada_parts.specs.Part as parts
 use Rattle.ada_meaning.specs.declared.event.Birth.{Birth}
 use Rattle.ada_meaning.specs.declared.event.Birth.TheVariants.{Creation, Copy, Adjustment}
 use Rattle.ada_meaning.specs.declared.state.Stage.{Stage}
-use Rattle.ada_meaning.specs.declared.state.Stage.TheVariants.{Gone}
+use Rattle.ada_meaning.specs.declared.state.Stage.TheVariants.{Building, Existing, Gone}
 use Rattle.ada_meaning.specs.Event.{Born, Finalized, Back, Followed, Left, Line, Quiet}
 use Rattle.ada_meaning.specs.State.{Activation, Master}
 use Rattle.ada_meaning.specs.declared.state.Mode.{Mode}
@@ -39,11 +39,12 @@ use Rattle.ada_typed.proofs.Runs.{step_typed}
 use Rattle.ada_scopes.specs.Scopes.{InnermostHeldInside, is_innermost, Holds as HoldsName}
 use Rattle.ada_scopes.proofs.Components.{AreOfKinds, collect_two, held_outside, held_inside}
 use Rattle.ada_idle.specs.Law.{adjusts_copy}
+use Rattle.ada_owners.specs.Places.{is_there}
 use Rattle.ada_quiet.specs.Idle.{copies_parts}
 use Rattle.ada_quiet.specs.InUse.{operations_may_be_called}
 use Rattle.ada_sound.proofs.Items.{items_fall}
-use Rattle.ada_sound.proofs.Stored.{IsUnder, Stored, there_listed}
-use Rattle.ada_sound.proofs.Leavings.{AreInOrder, HeldIn, NamedBelow}
+use Rattle.ada_sound.proofs.Stored.{AllOut, IsUnder, Stored, none_departed, there_listed}
+use Rattle.ada_sound.proofs.Leavings.{GoesWell, HeldIn, NamedBelow}
 use Rattle.ada_sound.proofs.Sees.{reaches_in, may_call}
 use Rattle.ada_sound.proofs.TracksWell.{copies_at, allocates_at, called_apart}
 use Rattle.ada_sound.proofs.Trackers.{stands_apart}
@@ -61,8 +62,8 @@ use Rattle.ada_sound.proofs.TouchingSteps.{InTouching, Went, GoesTouching}
 use Rattle.ada_sound.proofs.Touching.{Around}
 use Rattle.ada_sound.proofs.Operated.{OperatedAs}
 use Rattle.ada_sound.proofs.Alters.{Alters, alters_same, alters_set}
-use Rattle.ada_sound.proofs.Invariant.{Known, Control, Working, CallsOn, Says, GoesOn, Stepped, EndsWell, Fine, outers, IsAwaited, under_in, departs, departs_next, innermost}
-use Rattle.ada_sound.proofs.Callers.{Suspension, callers_of, known_in, Stands}
+use Rattle.ada_sound.proofs.Invariant.{Known, Control, Working, CallsOn, Says, GoesOn, Stepped, EndsWell, Fine, outers, IsAwaited, departs, departs_next, innermost}
+use Rattle.ada_sound.proofs.Callers.{AreCalls, Suspension, known_in, none_under, Stands}
 use Rattle.ada_sound.proofs.Returns.{Crosses, CrossesTo, same_types, resumed_in, behind_call as behind_mode, behind_frames, behind_body, crosses_to, left_settled}
 use Rattle.ada_sound.proofs.Calls.{calls_to}
 use Rattle.ada_sound.proofs.Waiting.{SameBody, stands_kept}
@@ -109,7 +110,7 @@ each_stays s mid (picks n taking) p r b e = λ i lt. stays_by s mid (taking i) p
 -- What a step leads to: the ordinary invariant, or the body of an operation runs.
 abbrev pub Led : Program → List Object → Event → State → Type 0
 Led program before e after =
-    ((c : Crosses program before e after) × IsCalm (behind_call after.control) × (under_in (callers_of program c.suspensions) ≡ [])) ⊎ (InOperation program before e after ⊎ (InTouching program before e after ⊎ InCopy program before e after))
+    ((c : Crosses program before e after) × IsCalm (behind_call after.control) × (AreCalls c.suspensions)) ⊎ (InOperation program before e after ⊎ (InTouching program before e after ⊎ InCopy program before e after))
 
 -- What goes on behind the end of an operation, by what is around it: no operation runs, or one that touches storage is under way.
 went_around : (program : Program) (before : List Object) (e : Event) (gs : List Suspension) (after : State) → CrossesTo program gs before e after → Around program gs after → Went program before e after
@@ -121,7 +122,7 @@ went_around program before e gs after c (inr within) = inl (record {
 })
 
 -- A step that begins no call and ends none keeps what is known of callers.
-module _ (program : Program) (s after : State) (gs : List Suspension) (stands : Stands program gs s) (calm : IsCalm (behind_call s.control)) (none : under_in (callers_of program gs) ≡ []) (e : Event) (kept : Stays s after) where
+module _ (program : Program) (s after : State) (gs : List Suspension) (stands : Stands program gs s) (calm : IsCalm (behind_call s.control)) (none : AreCalls gs) (e : Event) (kept : Stays s after) where
   pub kept_on : Stepped (known_in program (running_procedure s) gs) s.heap e after → Led program s.heap e after
   kept_on st = inl (
     record {
@@ -142,7 +143,7 @@ FineIn program s (asks request answered) = (granted : Bool) → Led program s.he
 FineIn program s (picks n taken) = (i : ℕ) → suc i ≤ n → Led program s.heap Quiet (taken i)
 
 -- So what comes next is known where no call begins and none ends.
-pub fine_in : (program : Program) (s : State) (gs : List Suspension) → Stands program gs s → IsCalm (behind_call s.control) → under_in (callers_of program gs) ≡ [] → (n : Next) → Each (Stays s) n → Fine (known_in program (running_procedure s) gs) s.heap s.masters n → FineIn program s n
+pub fine_in : (program : Program) (s : State) (gs : List Suspension) → Stands program gs s → IsCalm (behind_call s.control) → AreCalls gs → (n : Next) → Each (Stays s) n → Fine (known_in program (running_procedure s) gs) s.heap s.masters n → FineIn program s n
 fine_in program s gs stands calm none (halts halt) same fine = fine
 fine_in program s gs stands calm none (moves e after) same fine = kept_on program s after gs stands calm none e same fine
 fine_in program s gs stands calm none (tells request e after) same fine = kept_on program s after gs stands calm none e same fine
@@ -165,37 +166,37 @@ held_inside_it program s grounds o =
     (held_outside (program_form program) s grounds.nested (subst (λ (ts : List TypeForm). AreOfKinds ts s) (same_types (running_procedure s) (program_form program)) (are_of_kinds own s grounds.typed.inside)))
 
 -- Nothing is under way where nothing is in the bodies that wait.
-pub none_is_under : (program : Program) (procedure : Option ℕ) (gs : List Suspension) → under_in (callers_of program gs) ≡ [] → (o : Id) → IsUnder (outers (known_in program procedure gs)).under o → ⊥
+pub none_is_under : (program : Program) (procedure : Option ℕ) (gs : List Suspension) → AreCalls gs → (o : Id) → IsUnder (outers (known_in program procedure gs)).under o → ⊥
 none_is_under program procedure gs none o under =
-    let nothing : IsUnder [] o = rw none at under in
+    let nothing : IsUnder [] o = rw (none_under program gs none) at under in
     nothing
 
--- What is there is in its collection then.
-pub held_there : (heap : List Object) (ms : List Master) → Stored [] heap ms → ((holder held : Object) → HoldsName heap holder held → is_innermost ms held.cell.home.item ≡ true → is_innermost ms holder.cell.home.item ≡ true) → HeldIn heap ms
-held_there heap ms stored inside holder held (o, p, c, holds, names, at') =
-    inside holder held (o, p, c, (holds.0, there_listed o holder holds.0 holds.1 stored), (names.0, there_listed p held names.0 names.1 stored), at')
+-- What is there is in its collection then, where its words are out.
+held_there : (heap : List Object) (ms : List Master) → Stored [] heap ms → AllOut heap → ((holder held : Object) → HoldsName heap holder held → is_innermost ms held.cell.home.item ≡ true → is_innermost ms holder.cell.home.item ≡ true) → HeldIn heap ms
+held_there heap ms stored out inside holder held (o, p, c, holds, names, at') out_held =
+    inside holder held (o, p, c, (holds.0, there_listed o holder holds.0 (out o holder holds.0 holds.1) stored), (names.0, there_listed p held names.0 out_held stored), at')
 
--- What is known where a master is left next (7.6.1): nothing outside it holds what lies in it, nor do callers rely on that, and its items go in order.
+-- What is known where a master is left next (7.6.1): nothing outside it holds what lies in it, nor do callers rely on that, and its newest item goes well.
 abbrev pub IsLeftWell : (program : Program) (s : State) → Ordinary program s → Type 0
 IsLeftWell program s o =
     (left : Mode) (behind : Control) → s.mode ≡ Running → s.control ≡ frame.Leaves left ∷ behind
     → HeldIn s.heap s.masters
     × NamedBelow (outers (known_in program (running_procedure s) o.suspensions)) s.heap s.masters
-    × AreInOrder (known_in program (running_procedure s) o.suspensions).ahead (known_in program (running_procedure s) o.suspensions).program.types (innermost s.masters)
+    × GoesWell (known_in program (running_procedure s) o.suspensions).program.types s.heap (innermost s.masters)
 
 -- No member is taken next of a collection for whose objects operations may be called that touch storage, and none of its members ends.
 abbrev pub NoneDeparts : (program : Program) (s : State) → Ordinary program s → Type 0
 NoneDeparts program s o = s.mode ≡ Running → departs_next (departs (known_in program (running_procedure s) o.suspensions).ahead (innermost s.masters)) s.control ≡ false
 
--- So a master is left well where its items go in order.
-pub left_well : (program : Program) (s : State) → Grounds program s → (o : Ordinary program s)
-    → AreInOrder (known_in program (running_procedure s) o.suspensions).ahead (known_in program (running_procedure s) o.suspensions).program.types (innermost s.masters)
+-- So a master is left well where its newest item goes well.
+pub left_well : (program : Program) (s : State) → Grounds program s → AllOut s.heap → (o : Ordinary program s)
+    → GoesWell (known_in program (running_procedure s) o.suspensions).program.types s.heap (innermost s.masters)
     → IsLeftWell program s o
-left_well program s grounds o orderly left behind runs at_leaving =
+left_well program s grounds out o well left behind runs at_leaving =
     let parting = rw (runs, at_leaving) at (o.ready.1) in (
-      held_there s.heap s.masters (rw o.settled at parting.stored) (held_inside_it program s grounds o),
+      held_there s.heap s.masters (rw (none_under program o.suspensions o.settled) at parting.stored) out (held_inside_it program s grounds o),
       named_below (known_in program (running_procedure s) o.suspensions) s.heap o.stands.standing.waiting o.stands.standing.low left behind s.masters parting,
-      orderly,
+      well,
     )
 
 -- A state with these parts.
@@ -203,13 +204,13 @@ abbrev pub state_with : Mode → Control → List (Activation Value) → State �
 state_with mode k all s = record s { mode = mode; control = k; activations = all }
 
 -- A step that begins no call and ends none, and treats nothing.
-ordinary : (program : Program) (s : State) (grounds : Grounds program s) (o : Ordinary program s) → IsLeftWell program s o → NoneDeparts program s o → inside.crosses s.mode s.control ≡ false → (n : Next) → mode_next named program.types.items (body_forms program) s.mode s ≡ n → Each (Stays s) n → FineIn program s n
+ordinary : (program : Program) (s : State) (grounds : Grounds program s) → AllOut s.heap → (o : Ordinary program s) → IsLeftWell program s o → NoneDeparts program s o → inside.crosses s.mode s.control ≡ false → (n : Next) → mode_next named program.types.items (body_forms program) s.mode s ≡ n → Each (Stays s) n → FineIn program s n
 unfolding next
-ordinary program s grounds o low stays inner n is same =
+ordinary program s grounds out o low stays inner n is same =
     let known = known_in program (running_procedure s) o.suspensions in
     fine_in program s o.suspensions o.stands o.calm o.settled n same
     (subst (λ (coming : Next). Fine known s.heap s.masters coming) is (inside.fine known (copies_at program (running_procedure s) o.suspensions grounds.well grounds.obeys.0) any_type program.types.items (reaches_in program (running_procedure s) o.suspensions) (body_forms program) (may_call program (running_procedure s) o.suspensions grounds.well) s (allocates_at program (running_procedure s) o.suspensions s grounds.well grounds.obeys.0 grounds.apart grounds.releases) inner grounds.typed.inside (own_bodies (program_form program) grounds.frees_own (running_procedure s)) (collect_two (program_form program) s grounds.nested) (grounds.finalizes o.calm known.program.types (outers known))
-    (λ p x under found. absurd (none_is_under program (running_procedure s) o.suspensions o.settled p under))
+    (λ p x aside found. elim aside [ inl under ↦ absurd (none_is_under program (running_procedure s) o.suspensions o.settled p under) | inr departed ↦ none_departed s.heap out p x departed ])
     (λ runs. any_freed s.control)
     low
     stays
@@ -250,9 +251,9 @@ module _ (program : Program) (a : Activation Value) (rest : List (Activation Val
   }
 
   -- A frame at which no call begins, and none ends, and that treats nothing.
-  crossing_none : (f : Frame Value) → crosses f ≡ false → is_treatment f ≡ false → Grounds program (state_with Running (f ∷ k) (a ∷ rest) s) → (o : Ordinary program (state_with Running (f ∷ k) (a ∷ rest) s)) → IsLeftWell program (state_with Running (f ∷ k) (a ∷ rest) s) o → NoneDeparts program (state_with Running (f ∷ k) (a ∷ rest) s) o → FineIn program (state_with Running (f ∷ k) (a ∷ rest) s) (frame_next named program.types.items (body_forms program) f (state_with Running k (a ∷ rest) s))
-  crossing_none f none plain grounds o low stays =
-      ordinary program (state_with Running (f ∷ k) (a ∷ rest) s) grounds o low stays (rw (none, plain) refl) _ refl
+  crossing_none : (f : Frame Value) → crosses f ≡ false → is_treatment f ≡ false → Grounds program (state_with Running (f ∷ k) (a ∷ rest) s) → AllOut s.heap → (o : Ordinary program (state_with Running (f ∷ k) (a ∷ rest) s)) → IsLeftWell program (state_with Running (f ∷ k) (a ∷ rest) s) o → NoneDeparts program (state_with Running (f ∷ k) (a ∷ rest) s) o → FineIn program (state_with Running (f ∷ k) (a ∷ rest) s) (frame_next named program.types.items (body_forms program) f (state_with Running k (a ∷ rest) s))
+  crossing_none f none plain grounds out o low stays =
+      ordinary program (state_with Running (f ∷ k) (a ∷ rest) s) grounds out o low stays (rw (none, plain) refl) _ refl
       (each_stays (state_with Running (f ∷ k) (a ∷ rest) s) (state_with Running k (a ∷ rest) s) _ refl refl (sym (no_return f k none)) (step_keeps program.types.items (body_forms program) f (state_with Running k (a ∷ rest) s) (λ treats. absurd (cc (plain, treats))) none))
 
   -- A step of a treatment.
@@ -305,13 +306,13 @@ module _ (program : Program) (a : Activation Value) (rest : List (Activation Val
     calm_here = typed_calm (seen_in a.procedure (program_form program)) whole grounds.typed.inside refl o.calm
 
     -- The Adjust is called that tracks the components of a copy.
-    pub begins_adjusting : (e : Event) (after : State) → next program.types.items (body_forms program) whole ≡ moves e after → BeginsAdjust treater a rest s program.types.items (body_forms program) v k IsOperated e after → Led program s.heap e after
-    begins_adjusting e after is c =
+    begins_adjusting : AllOut s.heap → (e : Event) (after : State) → next program.types.items (body_forms program) whole ≡ moves e after → BeginsAdjust treater a rest s program.types.items (body_forms program) v k IsOperated e after → Led program s.heap e after
+    begins_adjusting out e after is c =
         let copies = copied_by c.by c.done c.operated.0 c.copies in
         let tracks = adjust_tracks program grounds.well copies in_use_here a rest s o.suspensions v k IsOperated e after c in
         let untreated = grounds.untreated_start calm_here v c.by c.done tasks k (ap (λ (by : Treatment). Treats v by tasks ∷ k) (sym c.operated.0)) in
         let adjusting = adjusting_starts program grounds.well grounds.obeys grounds.lets_nothing_out copies a rest s o.suspensions v k IsOperated e after c tracks.0 tracks.1
-        (filled_in_program (program_form program) a.procedure whole grounds.typed.inside)
+        (filled_in_program (program_form program) a.procedure whole grounds.typed.inside) out
         (step_typed program grounds.well whole after settled e grounds.typed (rw is (refl, refl)))
         (restand Running (Treats v treatment tasks) o.suspensions o.stands) o.calm o.settled (grounds.apart (stands_apart (program_form program) tracks.0.0)).1 (λ u ne. nothing_begins u k untreated) in
         inr (inr (inr (record {
@@ -321,36 +322,36 @@ module _ (program : Program) (a : Activation Value) (rest : List (Activation Val
         })))
 
     -- The body of an operation begins, by what is known of it.
-    pub begun_as : (e : Event) (after : State) → next program.types.items (body_forms program) whole ≡ moves e after → (c : Begins treater a rest s program.types.items (body_forms program) k IsOperated e after) → IsUsedAs (program_form program) c.of c.number c.treatment c.b → Led program s.heap e after
-    begun_as e after is c (inl plain) = inr (inl (record {
+    begun_as : AllOut s.heap → (e : Event) (after : State) → next program.types.items (body_forms program) whole ≡ moves e after → (c : Begins treater a rest s program.types.items (body_forms program) k IsOperated e after) → IsUsedAs (program_form program) c.of c.number c.treatment c.b → Led program s.heap e after
+    begun_as out e after is c (inl plain) = inr (inl (record {
       operates = begins_operation program grounds.well a rest o.suspensions s k IsOperated e after (restand Running (Treats v treatment tasks) o.suspensions o.stands)
           (step_typed program grounds.well whole after settled e grounds.typed (rw is (refl, refl))) c (calm_around program a rest o.suspensions s k IsOperated e after c o.calm o.settled) plain;
       alters = rw c.is c.alters;
       says = told_says e s.heap after c.tells;
       covered = told_covered program e c.tells;
     }))
-    begun_as e after is c (inr (inr (copies, tracks, own))) =
+    begun_as out e after is c (inr (inr (copies, tracks, own))) =
         absurd (sees_to_none program grounds.well tracks.0 a rest s o.suspensions k IsOperated e after c copies own)
-    begun_as e after is c (inr (inl (may_touch, may, frugal, touches))) = inr (inr (inl (record {
-      body = touching_outermost program a rest s k v treatment tasks o.suspensions whole refl grounds calm_here refl o.calm o.settled (restand Running (Treats v treatment tasks) o.suspensions o.stands) e after c may_touch may frugal touches
+    begun_as out e after is c (inr (inl (may_touch, may, frugal, touches))) = inr (inr (inl (record {
+      body = touching_outermost program a rest s k v treatment tasks o.suspensions whole refl grounds calm_here refl o.calm o.settled (restand Running (Treats v treatment tasks) o.suspensions o.stands) (λ none q x departed. none_departed s.heap out q x departed) e after c may_touch may frugal touches
           (step_typed program grounds.well whole after settled e grounds.typed (rw is (refl, refl)));
       alters = rw c.is c.alters;
       says = told_says e s.heap after c.tells _ _;
     })))
 
     -- So it does whatever is called.
-    pub begins_there : (e : Event) (after : State) → next program.types.items (body_forms program) whole ≡ moves e after → Begins treater a rest s program.types.items (body_forms program) k IsOperated e after → Led program s.heap e after
-    begins_there e after is c = begun_as e after is c (used_as program in_use_here grounds.well c.of c.number c.b c.there c.treatment (copied_as c.treatment c.operated.0) c.called)
+    begins_there : AllOut s.heap → (e : Event) (after : State) → next program.types.items (body_forms program) whole ≡ moves e after → Begins treater a rest s program.types.items (body_forms program) k IsOperated e after → Led program s.heap e after
+    begins_there out e after is c = begun_as out e after is c (used_as program in_use_here grounds.well c.of c.number c.b c.there c.treatment (copied_as c.treatment c.operated.0) c.called)
 
     -- Whatever comes next is known.
-    pub treated_led : (n : Next) → next program.types.items (body_forms program) whole ≡ n → TreatedIn treater a rest s program.types.items (body_forms program) k IsOperated v n → FineIn program whole n
-    treated_led (halts halt) is t = t
-    treated_led (moves e after) is (inl st) = goes_here e after st
-    treated_led (moves e after) is (inr (inl c)) = begins_there e after is c
-    treated_led (moves e after) is (inr (inr c)) = begins_adjusting e after is c
-    treated_led (tells request e after) is t = absurd t
-    treated_led (asks request answered) is t = absurd t
-    treated_led (picks n taken) is t = λ i lt. goes_here Quiet (taken i) (t i lt)
+    treated_led : AllOut s.heap → (n : Next) → next program.types.items (body_forms program) whole ≡ n → TreatedIn treater a rest s program.types.items (body_forms program) k IsOperated v n → FineIn program whole n
+    treated_led out (halts halt) is t = t
+    treated_led out (moves e after) is (inl st) = goes_here e after st
+    treated_led out (moves e after) is (inr (inl c)) = begins_there out e after is c
+    treated_led out (moves e after) is (inr (inr c)) = begins_adjusting out e after is c
+    treated_led out (tells request e after) is t = absurd t
+    treated_led out (asks request answered) is t = absurd t
+    treated_led out (picks n taken) is t = λ i lt. goes_here Quiet (taken i) (t i lt)
 
     -- What comes next, by the treatment.
     pub treated_in : TreatedIn treater a rest s program.types.items (body_forms program) k IsOperated v (frame_next named program.types.items (body_forms program) (Treats v treatment tasks) (state_with Running k (a ∷ rest) s))
@@ -358,14 +359,14 @@ module _ (program : Program) (a : Activation Value) (rest : List (Activation Val
     treated_in = treated_next program a rest k s v treatment tasks grounds o.suspensions (grounds.finalizes o.calm treater.program.types (outers treater)) o.ready.1
 
     -- So the step is known.
-    pub treating_step : FineIn program whole (frame_next named program.types.items (body_forms program) (Treats v treatment tasks) (state_with Running k (a ∷ rest) s))
+    treating_step : AllOut s.heap → FineIn program whole (frame_next named program.types.items (body_forms program) (Treats v treatment tasks) (state_with Running k (a ∷ rest) s))
     unfolding next
-    treating_step = treated_led _ refl treated_in
+    treating_step out = treated_led out _ refl treated_in
 
   -- A frame that a jump passes, behind which no body is left.
-  passing_none : (mode : Mode) (f : Frame Value) → inside.crosses mode (f ∷ k) ≡ false → behind_call (f ∷ k) ≡ behind_call k → (n : Next) → mode_next named program.types.items (body_forms program) mode (state_with mode (f ∷ k) (a ∷ rest) s) ≡ n → n ≡ pass_next named (is_master f) (landing mode f) mode (state_with mode k (a ∷ rest) s) → Grounds program (state_with mode (f ∷ k) (a ∷ rest) s) → (o : Ordinary program (state_with mode (f ∷ k) (a ∷ rest) s)) → IsLeftWell program (state_with mode (f ∷ k) (a ∷ rest) s) o → NoneDeparts program (state_with mode (f ∷ k) (a ∷ rest) s) o → FineIn program (state_with mode (f ∷ k) (a ∷ rest) s) n
-  passing_none mode f none behind n is passes grounds o low stays =
-      ordinary program (state_with mode (f ∷ k) (a ∷ rest) s) grounds o low stays none n is
+  passing_none : (mode : Mode) (f : Frame Value) → inside.crosses mode (f ∷ k) ≡ false → behind_call (f ∷ k) ≡ behind_call k → (n : Next) → mode_next named program.types.items (body_forms program) mode (state_with mode (f ∷ k) (a ∷ rest) s) ≡ n → n ≡ pass_next named (is_master f) (landing mode f) mode (state_with mode k (a ∷ rest) s) → Grounds program (state_with mode (f ∷ k) (a ∷ rest) s) → AllOut s.heap → (o : Ordinary program (state_with mode (f ∷ k) (a ∷ rest) s)) → IsLeftWell program (state_with mode (f ∷ k) (a ∷ rest) s) o → NoneDeparts program (state_with mode (f ∷ k) (a ∷ rest) s) o → FineIn program (state_with mode (f ∷ k) (a ∷ rest) s) n
+  passing_none mode f none behind n is passes grounds out o low stays =
+      ordinary program (state_with mode (f ∷ k) (a ∷ rest) s) grounds out o low stays none n is
       (each_stays (state_with mode (f ∷ k) (a ∷ rest) s) (state_with mode k (a ∷ rest) s) n refl refl (sym behind)
       (subst (λ (coming : Next). Each (Keeps (state_with mode k (a ∷ rest) s)) coming) (sym passes) (pass_keeps (is_master f) (landing mode f) mode (state_with mode k (a ∷ rest) s))))
 
@@ -379,52 +380,53 @@ module _ (program : Program) (a : Activation Value) (rest : List (Activation Val
       inl (crosses_to left.1, left_calm mode references k o.calm, left.2 o.settled)
 
   -- The step of a frame, where no jump is on its way.
-  running_step : (f : Frame Value) → Grounds program (state_with Running (f ∷ k) (a ∷ rest) s) → (o : Ordinary program (state_with Running (f ∷ k) (a ∷ rest) s)) → IsLeftWell program (state_with Running (f ∷ k) (a ∷ rest) s) o → NoneDeparts program (state_with Running (f ∷ k) (a ∷ rest) s) o → FineIn program (state_with Running (f ∷ k) (a ∷ rest) s) (mode_next named program.types.items (body_forms program) Running (state_with Running (f ∷ k) (a ∷ rest) s))
-  running_step (Calls number b actuals) grounds o low stays =
+  running_step : (f : Frame Value) → Grounds program (state_with Running (f ∷ k) (a ∷ rest) s) → AllOut s.heap → (o : Ordinary program (state_with Running (f ∷ k) (a ∷ rest) s)) → IsLeftWell program (state_with Running (f ∷ k) (a ∷ rest) s) o → NoneDeparts program (state_with Running (f ∷ k) (a ∷ rest) s) o → FineIn program (state_with Running (f ∷ k) (a ∷ rest) s) (mode_next named program.types.items (body_forms program) Running (state_with Running (f ∷ k) (a ∷ rest) s))
+  running_step (Calls number b actuals) grounds out o low stays =
       let ready = o.ready.1 in
       let caller = known_in program a.procedure o.suspensions in
       let w : Working caller s.heap a.places s.masters (CallsOn caller number b actuals k) = at_work ready ready.rest.0 in
       let stands = restand Running (Calls number b actuals) o.suspensions o.stands in
+      let calm = (typed_calm (seen_in a.procedure (program_form program)) (state_with Running (Calls number b actuals ∷ k) (a ∷ rest) s) grounds.typed.inside refl o.calm).1 in
       inl (
-        crosses_to (calls_to program number b actuals k a rest o.suspensions s w ready.rest.1 (inside.heap_typed (seen_in a.procedure (program_form program)) (state_with Running (Calls number b actuals ∷ k) (a ∷ rest) s) grounds.typed.inside).1 stands (runs_called program number b actuals k a o.suspensions s grounds.well grounds.obeys (called_apart program (state_with Running (Calls number b actuals ∷ k) (a ∷ rest) s) number b actuals k refl grounds.obeys.0 grounds.apart) w stands.body ready.rest.1 rest stands)),
-        (typed_calm (seen_in a.procedure (program_form program)) (state_with Running (Calls number b actuals ∷ k) (a ∷ rest) s) grounds.typed.inside refl o.calm).1,
-        o.settled,
+        crosses_to (calls_to program number b actuals k a rest o.suspensions s w ready.rest.1 (inside.heap_typed (seen_in a.procedure (program_form program)) (state_with Running (Calls number b actuals ∷ k) (a ∷ rest) s) grounds.typed.inside).1 stands (λ q x departed. none_departed s.heap out q x departed) (runs_called program number b actuals k a o.suspensions s grounds.well grounds.obeys (called_apart program (state_with Running (Calls number b actuals ∷ k) (a ∷ rest) s) number b actuals k refl grounds.obeys.0 grounds.apart) w stands.body ready.rest.1 rest stands)),
+        calm,
+        ((never_awaited k calm, refl), o.settled),
       )
-  running_step (Returns actuals references) grounds o low stays = leaving_step Running actuals references grounds o o.ready.1
-  running_step (Treats v treatment tasks) grounds o low stays = treating_step v treatment tasks grounds o
-  running_step f grounds o low stays = crossing_none f refl refl grounds o low stays
+  running_step (Returns actuals references) grounds out o low stays = leaving_step Running actuals references grounds o o.ready.1
+  running_step (Treats v treatment tasks) grounds out o low stays = treating_step v treatment tasks grounds o out
+  running_step f grounds out o low stays = crossing_none f refl refl grounds out o low stays
 
   -- While a jump is on its way.
-  raising_step : (e : Exception) (f : Frame Value) → Grounds program (state_with (Raising e) (f ∷ k) (a ∷ rest) s) → (o : Ordinary program (state_with (Raising e) (f ∷ k) (a ∷ rest) s)) → IsLeftWell program (state_with (Raising e) (f ∷ k) (a ∷ rest) s) o → NoneDeparts program (state_with (Raising e) (f ∷ k) (a ∷ rest) s) o → FineIn program (state_with (Raising e) (f ∷ k) (a ∷ rest) s) (jump_next named (Raising e) (f ∷ k) (state_with (Raising e) (f ∷ k) (a ∷ rest) s))
-  raising_step e (Returns actuals references) grounds o low stays = leaving_step (Raising e) actuals references grounds o o.ready.1
-  raising_step e f grounds o low stays = passing_none (Raising e) f refl refl _ refl refl grounds o low stays
+  raising_step : (e : Exception) (f : Frame Value) → Grounds program (state_with (Raising e) (f ∷ k) (a ∷ rest) s) → AllOut s.heap → (o : Ordinary program (state_with (Raising e) (f ∷ k) (a ∷ rest) s)) → IsLeftWell program (state_with (Raising e) (f ∷ k) (a ∷ rest) s) o → NoneDeparts program (state_with (Raising e) (f ∷ k) (a ∷ rest) s) o → FineIn program (state_with (Raising e) (f ∷ k) (a ∷ rest) s) (jump_next named (Raising e) (f ∷ k) (state_with (Raising e) (f ∷ k) (a ∷ rest) s))
+  raising_step e (Returns actuals references) grounds out o low stays = leaving_step (Raising e) actuals references grounds o o.ready.1
+  raising_step e f grounds out o low stays = passing_none (Raising e) f refl refl _ refl refl grounds out o low stays
 
   -- An exit is on its way, ...
-  exiting_step : (f : Frame Value) → Grounds program (state_with Exiting (f ∷ k) (a ∷ rest) s) → (o : Ordinary program (state_with Exiting (f ∷ k) (a ∷ rest) s)) → IsLeftWell program (state_with Exiting (f ∷ k) (a ∷ rest) s) o → NoneDeparts program (state_with Exiting (f ∷ k) (a ∷ rest) s) o → FineIn program (state_with Exiting (f ∷ k) (a ∷ rest) s) (jump_next named Exiting (f ∷ k) (state_with Exiting (f ∷ k) (a ∷ rest) s))
-  exiting_step (Returns actuals references) grounds o low stays = leaving_step Exiting actuals references grounds o o.ready.1
-  exiting_step f grounds o low stays = passing_none Exiting f refl refl _ refl refl grounds o low stays
+  exiting_step : (f : Frame Value) → Grounds program (state_with Exiting (f ∷ k) (a ∷ rest) s) → AllOut s.heap → (o : Ordinary program (state_with Exiting (f ∷ k) (a ∷ rest) s)) → IsLeftWell program (state_with Exiting (f ∷ k) (a ∷ rest) s) o → NoneDeparts program (state_with Exiting (f ∷ k) (a ∷ rest) s) o → FineIn program (state_with Exiting (f ∷ k) (a ∷ rest) s) (jump_next named Exiting (f ∷ k) (state_with Exiting (f ∷ k) (a ∷ rest) s))
+  exiting_step (Returns actuals references) grounds out o low stays = leaving_step Exiting actuals references grounds o o.ready.1
+  exiting_step f grounds out o low stays = passing_none Exiting f refl refl _ refl refl grounds out o low stays
 
   -- ... or a return.
-  returning_step : (f : Frame Value) → Grounds program (state_with Returning (f ∷ k) (a ∷ rest) s) → (o : Ordinary program (state_with Returning (f ∷ k) (a ∷ rest) s)) → IsLeftWell program (state_with Returning (f ∷ k) (a ∷ rest) s) o → NoneDeparts program (state_with Returning (f ∷ k) (a ∷ rest) s) o → FineIn program (state_with Returning (f ∷ k) (a ∷ rest) s) (jump_next named Returning (f ∷ k) (state_with Returning (f ∷ k) (a ∷ rest) s))
-  returning_step (Returns actuals references) grounds o low stays = leaving_step Returning actuals references grounds o o.ready.1
-  returning_step f grounds o low stays = passing_none Returning f refl refl _ refl refl grounds o low stays
+  returning_step : (f : Frame Value) → Grounds program (state_with Returning (f ∷ k) (a ∷ rest) s) → AllOut s.heap → (o : Ordinary program (state_with Returning (f ∷ k) (a ∷ rest) s)) → IsLeftWell program (state_with Returning (f ∷ k) (a ∷ rest) s) o → NoneDeparts program (state_with Returning (f ∷ k) (a ∷ rest) s) o → FineIn program (state_with Returning (f ∷ k) (a ∷ rest) s) (jump_next named Returning (f ∷ k) (state_with Returning (f ∷ k) (a ∷ rest) s))
+  returning_step (Returns actuals references) grounds out o low stays = leaving_step Returning actuals references grounds o o.ready.1
+  returning_step f grounds out o low stays = passing_none Returning f refl refl _ refl refl grounds out o low stays
 
 -- Any step where no operation runs.
-step_by : (program : Program) (mode : Mode) (k : Control) (all : List (Activation Value)) (s : State) → Grounds program (state_with mode k all s) → (o : Ordinary program (state_with mode k all s)) → IsLeftWell program (state_with mode k all s) o → NoneDeparts program (state_with mode k all s) o → FineIn program (state_with mode k all s) (mode_next named program.types.items (body_forms program) mode (state_with mode k all s))
-step_by program mode k [] s grounds o low stays = absurd (o.ready.0)
-step_by program Running [] (a ∷ rest) s grounds o low stays = o.ready.1
-step_by program (Raising e) [] (a ∷ rest) s grounds o low stays = o.ready.1
-step_by program Exiting [] (a ∷ rest) s grounds o low stays = tt
-step_by program Returning [] (a ∷ rest) s grounds o low stays = o.ready.1
-step_by program Running (f ∷ k) (a ∷ rest) s grounds o low stays = running_step program a rest k s f grounds o low stays
-step_by program (Raising e) (f ∷ k) (a ∷ rest) s grounds o low stays = raising_step program a rest k s e f grounds o low stays
-step_by program Exiting (f ∷ k) (a ∷ rest) s grounds o low stays = exiting_step program a rest k s f grounds o low stays
-step_by program Returning (f ∷ k) (a ∷ rest) s grounds o low stays = returning_step program a rest k s f grounds o low stays
+step_by : (program : Program) (mode : Mode) (k : Control) (all : List (Activation Value)) (s : State) → Grounds program (state_with mode k all s) → AllOut s.heap → (o : Ordinary program (state_with mode k all s)) → IsLeftWell program (state_with mode k all s) o → NoneDeparts program (state_with mode k all s) o → FineIn program (state_with mode k all s) (mode_next named program.types.items (body_forms program) mode (state_with mode k all s))
+step_by program mode k [] s grounds out o low stays = absurd (o.ready.0)
+step_by program Running [] (a ∷ rest) s grounds out o low stays = o.ready.1
+step_by program (Raising e) [] (a ∷ rest) s grounds out o low stays = o.ready.1
+step_by program Exiting [] (a ∷ rest) s grounds out o low stays = tt
+step_by program Returning [] (a ∷ rest) s grounds out o low stays = o.ready.1
+step_by program Running (f ∷ k) (a ∷ rest) s grounds out o low stays = running_step program a rest k s f grounds out o low stays
+step_by program (Raising e) (f ∷ k) (a ∷ rest) s grounds out o low stays = raising_step program a rest k s e f grounds out o low stays
+step_by program Exiting (f ∷ k) (a ∷ rest) s grounds out o low stays = exiting_step program a rest k s f grounds out o low stays
+step_by program Returning (f ∷ k) (a ∷ rest) s grounds out o low stays = returning_step program a rest k s f grounds out o low stays
 
 -- So it is with a state as it is.
-pub ordinary_step : (program : Program) (s : State) → Grounds program s → (o : Ordinary program s) → IsLeftWell program s o → NoneDeparts program s o → FineIn program s (next program.types.items (body_forms program) s)
+pub ordinary_step : (program : Program) (s : State) → Grounds program s → AllOut s.heap → (o : Ordinary program s) → IsLeftWell program s o → NoneDeparts program s o → FineIn program s (next program.types.items (body_forms program) s)
 unfolding next
-ordinary_step program s grounds o low stays = step_by program s.mode s.control s.activations s grounds o low stays
+ordinary_step program s grounds out o low stays = step_by program s.mode s.control s.activations s grounds out o low stays
 
 -- A step of the body of an operation.
 module _ (program : Program) (s : State) (o : Operates program s) where
@@ -432,17 +434,14 @@ module _ (program : Program) (s : State) (o : Operates program s) where
   abbrev sight : Sight
   sight = record { program = seen_in (Some o.procedure) (program_form program); object = o.object; access = o.access }
 
-  -- The words of the object that is treated are out.
-  object_out : o.body.x.out ≡ true
-  object_out =
-      let behind = behind_operation (o.caller ∷ o.rest) o.behind o.lower s in
-      let c = (operation_ends program s o).0 in
-      let stored = ready_stored (known_in program o.caller.procedure o.suspended.suspensions) behind c.stepped.ready in
-      by o.body.x.out refl o.body.x.stage o.body.live (stored.1.sane o.object o.body.x o.body.found).back_gone
+  -- The object that is treated is there.
+  object_there : is_there o.body.x.stage ≡ true
+  object_there = by o.body.x.stage o.body.live
     where
-      by : (out : Bool) → o.body.x.out ≡ out → (stage : Stage) → StaysLive stage → (o.body.x.out ≡ false → o.body.x.stage ≡ Gone) → o.body.x.out ≡ true
-      by true is stage live gone = is
-      by false is stage live gone = absurd (let g = gone is in let never : StaysLive Gone = rw g at o.body.live in never)
+      by : (stage : Stage) → StaysLive stage → is_there stage ≡ true
+      by Building live = refl
+      by Existing live = refl
+      by Gone live = absurd live
 
   -- What it writes alters the object alone.
   after_alters : (e : Event) (heap : List Object) → Wrote sight o.procedure (o.caller ∷ o.rest) o.lower o.behind s.heap heap → Alters s.heap e heap
@@ -454,7 +453,7 @@ module _ (program : Program) (s : State) (o : Operates program s) where
   mild_says implicit p (Born object part turn type number by) after mild = tt
   mild_says implicit p (Finalized object part turn type number cause) after mild = tt
   mild_says implicit p (Back object access number pool subpool cause) after mild = absurd mild
-  mild_says implicit p (Followed v) after mild = record { id = o.object; object = o.body.x; is = mild; found = o.body.found; out = object_out }
+  mild_says implicit p (Followed v) after mild = record { id = o.object; object = o.body.x; is = mild; found = o.body.found; there = object_there }
   mild_says implicit p (Left master) after mild = tt
   mild_says implicit p (Line line) after mild = tt
   mild_says implicit p Quiet after mild = tt

@@ -98,7 +98,7 @@ module _ (known : Known) (k : Control) (a : Activation Value) (rest : List (Acti
   referred_on o there place below None w = tt
   referred_on o there place below (Some vs) w =
       stays known (Followed (Names o)) (running k (record a { operands = Part o place ∷ below }) rest s)
-      (tt, passes_ready known k s.heap a.places (Part o place ∷ below) s.masters w) (followed o there w.stored)
+      (tt, passes_ready known k s.heap a.places (Part o place ∷ below) s.masters w) (followed o there)
 
   pub referred_fine : (place : Place) (t count : ℕ) (v : Value) (below : List Value) → Working known s.heap a.places s.masters (λ rooms holds. MayFollow s.heap v × FindsFor known s.heap a.places v below [] (RefersIn place t ∷ k) rooms holds) → Fine known s.heap s.masters (refers_next named v place count (look s.heap v) (running k (record a { operands = below }) rest s))
   referred_fine place t count Null below w = jumps_less known k (record a { operands = below }) rest s (Raising ConstraintError) (at_work w (w.rest.1.0 refl))
@@ -114,7 +114,7 @@ module _ (known : Known) (k : Control) (a : Activation Value) (rest : List (Acti
   opened_on o there c below None w = tt
   opened_on o there c below (Some v) w =
       stays known (Followed (Names o)) (running k (record a { operands = v ∷ Part o (record { component = c; part = 0 }) ∷ below }) rest s)
-      (tt, passes_ready known k s.heap a.places (v ∷ Part o (record { component = c; part = 0 }) ∷ below) s.masters (w v)) (followed o there (w v).stored)
+      (tt, passes_ready known k s.heap a.places (v ∷ Part o (record { component = c; part = 0 }) ∷ below) s.masters (w v)) (followed o there)
 
   pub opened_fine : (c : ℕ) (v : Value) (below : List Value) → Working known s.heap a.places s.masters (λ rooms holds. MayFollow s.heap v × FindsFor known s.heap a.places v below [] (OpensIn c ∷ k) rooms holds) → Fine known s.heap s.masters (opens_next named v c (look s.heap v) (running k (record a { operands = below }) rest s))
   opened_fine c Null below w = jumps_less known k (record a { operands = below }) rest s (Raising ConstraintError) (at_work w (w.rest.1.0 refl))

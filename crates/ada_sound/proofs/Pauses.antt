@@ -2,7 +2,7 @@
 -- was, and each activation that waits keeps the operands that it had. Where a part of an object has been finalized that ends behind, or has been begun of one
 -- that begins, what is watched is another object. So it stays where an exception comes out of what begins the part.
 
-use Rattle.std.proofs.Common.{◌≡◌, ◌≢◌, ℕ, zero, suc, false, List, [], ◌∷◌, length, drop, refl, sym, ap, ◌∙◌, subst, ◌⊎◌, inl, inr, arith}
+use Rattle.std.proofs.Common.{◌≡◌, ◌≢◌, ℕ, zero, suc, false, List, [], ◌∷◌, ◌++◌, length, drop, refl, sym, ap, ◌∙◌, subst, ◌⊎◌, inl, inr, arith}
 use Rattle.std.proofs.Math.Nat.{add-zero}
 use Rattle.std.specs.Prelude.{◌+◌, ◌==◌, Option, Some, None}
 use Rattle.ada_parts.specs.Task.{Task}
@@ -34,8 +34,9 @@ use Rattle.ada_sound.proofs.Allowance.{Allowance, allowance_of}
 use Rattle.ada_sound.proofs.FrugalControl.{Frugal}
 use Rattle.ada_sound.specs.Agreement.{running_procedure}
 use Rattle.ada_sound.proofs.Alters.{Alters, alters_same}
-use Rattle.ada_sound.proofs.Callers.{Suspension}
-use Rattle.ada_sound.proofs.Invariant.{Control}
+use Rattle.ada_sound.proofs.Callers.{Suspension, callers_of}
+use Rattle.ada_sound.proofs.Invariant.{Control, OneAwaits}
+use Rattle.ada_sound.proofs.OperationStarts.{is_awaited}
 use Rattle.ada_sound.proofs.Touching.{Pause, Watch, Watched, Within, AreInner, operated_among, origin, is_unnamed, is_watched, watches}
 
 -- What is known of an activation that waits for an operation, behind a step: of the object, what the step leaves, and the operands.
@@ -79,6 +80,19 @@ pause_on program depth later s after e f alters same still = record {
   adjusts = f.adjusts;
   lets = f.lets;
 }
+
+-- One of the activations that wait behind others waits for an operation: so does one of them all.
+awaits_behind : (program : Program) (others inner : List Suspension) → OneAwaits (callers_of program others) → OneAwaits (callers_of program (inner ++ others))
+awaits_behind program others [] awaits = awaits
+awaits_behind program others (g ∷ inner) awaits = inr (awaits_behind program others inner awaits)
+
+-- While an operation that touches storage is under way, the activation waits for it that called the outermost one.
+pub touching_awaits : (program : Program) (gs : List Suspension) (s : State) → Within program gs s → OneAwaits (callers_of program gs)
+touching_awaits program gs s w =
+    let o = w.outermost in
+    subst (λ (all : List Suspension). OneAwaits (callers_of program all)) (sym w.are)
+    (awaits_behind program (origin program (length w.inner) s o ∷ o.suspensions) w.inner
+    (inl (is_awaited (program_form program).types o.object o.of o.treatment o.tasks o.after o.behind o.awaited)))
 
 module _ (program : Program) (s : State) (frugal : Allowance) (back : Control) (lower : List Master) where
   -- What is watched in each of these activations that waits for an operation is so still in a state.

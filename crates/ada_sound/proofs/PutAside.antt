@@ -116,7 +116,7 @@ heap_aside w bs h = record { count = sym (aside_count bs w.object h); objects = 
   where
     itself : (o : Id) (x : Option Object) → FoundAlike (hidden_beside w (is_one_of bs) o) false x x
     itself o None = tt
-    itself o (Some x) = record { values = record { count = refl; values = λ c none. refl }; cell = refl; life = refl }
+    itself o (Some x) = record { values = record { count = refl; values = λ c none. refl }; cell = refl; listed = refl; life = refl }
 
     blank : (found : Option Object) → object_at h w.object ≡ found → FoundAlike (hidden_beside w (is_one_of bs) w.object) false (object_at h w.object) (object_at (blanked (hiding bs w.object) h) w.object)
     blank None at = subst (λ (k : List Object). FoundAlike (hidden_beside w (is_one_of bs) w.object) false (object_at h w.object) (object_at k w.object)) (sym (aside_missing bs w.object h at)) (itself w.object (object_at h w.object))
@@ -127,6 +127,7 @@ heap_aside w bs h = record { count = sym (aside_count bs w.object h); objects = 
             values = λ c none. sym (other_stays bs c x.cell.values (sym (hides_these w bs c) ∙ none));
           };
           cell = refl;
+          listed = refl;
           life = refl;
         } in
         subst (λ (found : Option Object). FoundAlike (hidden_beside w (is_one_of bs) w.object) false found (object_at (blanked (hiding bs w.object) h) w.object)) (sym at)

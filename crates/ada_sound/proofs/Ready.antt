@@ -75,7 +75,7 @@ module _ (known : Known) where
   pub stays : (e : Event) (after : State) → Ready known after → Says known.implicit known.program e after.heap after → Stepped known after.heap e after
   stays e after r says = record { ready = r; alters = alters_same after.heap e; says = says }
 
-  -- Where a master is to be left, nothing relies on the components of what is gone before an operation may be called that touches storage.
+  -- Where a master is to be left, nothing relies on the components of what goes with it, once no operation may be called for that which touches storage.
   pub parts : {heap : List Object} {places : List Value} {ms : List Master} {more : Rooms → Holds → Type 0} → Working known heap places ms more → Parting known heap places ms more
   parts {heap} {places} {ms} w = record { rooms = w.rooms; holds = w.holds; stored = w.stored; roomed = w.roomed; fit = spare_fit (sparing known.ahead heap (innermost ms)) w.fit; rest = w.rest }
 

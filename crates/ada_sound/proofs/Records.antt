@@ -56,7 +56,7 @@ use Rattle.ada_typed.proofs.Control as typed
 use Rattle.ada_typed.proofs.Parts.{shown_number}
 use Rattle.ada_sound.proofs.Fits.{Outsiders, Fit, Hand, IsUnreferred, outer_access, bare, stacked, none_spared, place_at, hold_in, weaker_fit, put_lost, put_owner, create_fit, hand_is_unnamed, less_unnamed}
 use Rattle.ada_sound.proofs.Alters.{alters_new}
-use Rattle.ada_sound.proofs.Invariant.{outers, below, AdjustsFirst, AdjustsWell, IsPlainFirst, Known, Control, Rooms, Roomed, To, Raised, Doing, Handled, Outside, Elaborating, Giving, MayOwn, InitialTo, Recording, ReadyIn, RunsOn, StartsTo, Spares, Unaliased, IsAside, Beginning, Working, Stepped, Fine, ways}
+use Rattle.ada_sound.proofs.Invariant.{outers, below, AdjustsFirst, AdjustsWell, IsPlainFirst, Known, Control, Rooms, Roomed, To, Raised, Doing, Handled, Outside, Elaborating, Giving, MayOwn, InitialTo, Recording, ReadyIn, RunsOn, StartsTo, Spares, Unaliased, IsAside, IsOut, Beginning, Working, Stepped, Fine, ways}
 use Rattle.ada_sound.proofs.Ready.{running, at_work, runs_ready, treats_ready, ready_on}
 use Rattle.ada_sound.proofs.Outcomes.{before_lost, goes_map, to_before, raised_before, using_goes, ends_goes, loses_goes}
 use Rattle.ada_sound.proofs.Raising.{or_left, or_right, any_more}
@@ -64,7 +64,7 @@ use Rattle.ada_sound.proofs.Values.{lost_here}
 use Rattle.ada_sound.proofs.Orderings.{AsGood, good_losing, good_to_lost, without_freed_good}
 use Rattle.ada_flow.specs.Flow.{left_finalized}
 use Rattle.ada_sound.proofs.LeftFinalized.{finalized_losing, freed_apart, freed_none}
-use Rattle.ada_sound.proofs.Undone.{beginning_undone}
+use Rattle.ada_sound.proofs.Undone.{beginning_undone, new_is_out}
 use Rattle.ada_sound.proofs.Followings.{first_kept}
 use Rattle.ada_sound.proofs.Copied.{IsCopy, items_keep, copied_plain, copied_whole, may_copy}
 use Rattle.ada_sound.proofs.Defaults.{Reaches}
@@ -284,11 +284,14 @@ module _ (known : Known) (rest : List (Activation Value)) (s : State) (types : L
           well = (i.spares, i.unaliased);
         }
 
+    new_out : IsOut heap new
+    new_out = new_is_out known s.heap words cell
+
     pub made_fine : Working known s.heap a.places s.masters (Initializing k) → Stepped known s.heap Quiet (made named types x t Creation values (running k a rest s))
     made_fine w =
         let b = made_begins w in
         record {
-          ready = (tt, treats_ready known new (begins Creation []) (all_tasks types t PartsFirst) k heap places a.operands masters (inl b, (b.stored, beginning_undone known new k heap places masters b)) tt);
+          ready = (tt, treats_ready known new (begins Creation []) (all_tasks types t PartsFirst) k heap places a.operands masters (inl b, (b.stored, beginning_undone known new k heap places masters b new_out, new_out)) tt);
           alters = alters_new s.heap Quiet (new_object cell) refl;
           says = tt;
         }

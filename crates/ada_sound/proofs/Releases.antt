@@ -36,7 +36,7 @@ use Rattle.ada_owners.specs.Reliance.{IsOf}
 use Rattle.ada_owners.proofs.Objects.{present_at}
 use Rattle.ada_sound.proofs.Fits.{Outsiders, IsOwnedOutside, NamesOwnedOutside, NoOuterAlias, MayFollow, place_at, component_access, component_is, component_inside, weaker_fit, behind_fit, component_unnamed, less_unnamed, same_unnamed, part_fit}
 use Rattle.ada_sound.proofs.Objects.{set_here}
-use Rattle.ada_sound.proofs.Stored.{stored_part}
+use Rattle.ada_sound.proofs.Stored.{listed_out, stored_part}
 use Rattle.ada_sound.proofs.Alters.{alters_set}
 use Rattle.ada_sound.proofs.Assigned.{this_is, freed_at}
 use Rattle.ada_sound.proofs.Homes.{HaveHomes, same_one, stands_there, freed_home}
@@ -178,7 +178,7 @@ module _ (known : Known) (a : Activation Value) (rest : List (Activation Value))
     null_freed o there w =
         stays known (Followed (Names o)) (running k (record a { operands = below }) rest s)
         (tt, runs_ready known k s.heap a.places below s.masters (record { rooms = w.rooms; holds = w.rest.runs.0; stored = w.stored; roomed = w.roomed; fit = weaker_fit w.rest.runs.0 w.rest.runs.1 (behind_fit w.rest.access w.fit); rest = w.rest.runs.2.0 }))
-        (followed o there w.stored)
+        (followed o there)
 
     -- The component is of the type that is freed.
     names_own : (o : Id) (object : Object) → object_at s.heap o ≡ Some object → (w : Working known s.heap a.places s.masters (Releasing known s.heap (Names o) [] access c k)) → component_access known.program.types object c ≡ w.rest.access
@@ -221,7 +221,8 @@ module _ (known : Known) (a : Activation Value) (rest : List (Activation Value))
         let stands = stands_there p there.object homes w.stored there.found there.there (rw there.access (w.rest.own t is_t)) (rw (there.access, by_own) freely) inner in
         let all_run : To (λ less. RunsOn known k w.rooms less × EndsWellBy known t less) (behind_end known.program.variables w.rest.access w.holds) = (w.rest.runs.0, w.rest.runs.1, (w.rest.runs.2.0, w.rest.runs.2.1 t is_t)) in
         let runs : To (λ less. RunsOn known k w.rooms less × EndsWellBy known t less) (behind_end known.program.variables (Some t) w.holds) = rw is_t at all_run in
-        let home = freed_home access p there.object homes w.stored there.found exists (rw there.access (w.rest.own t is_t)) (there.access ∙ by_own) in
+        let out = listed_out p there.object there.found stands.0 w.stored in
+        let home = freed_home access p there.object homes w.stored there.found out (rw there.access (w.rest.own t is_t)) (there.access ∙ by_own) in
         let leads : component_access known.program.types object c ≡ Some there.object.cell.access = names_own o object found w ∙ (is_t ∙ ap Some (sym there.access)) in
         let spared : SparesHolder known there.object.cell.access object.cell.access =
         rw there.access (w.rest.spared t object.cell.access is_t (w.rest.is_from o object refl found)) in
@@ -234,6 +235,7 @@ module _ (known : Known) (a : Activation Value) (rest : List (Activation Value))
           object = parted there.object;
           found = set_here s.heap p.0 there.object (parted there.object) there.found;
           exists = exists;
+          out = out;
           parted = refl;
           stored = stored_part p there.object there.found w.stored;
           covered = (subst (λ (u : ℕ). CoveredIn known.implicit known.program u) (sym there.access) (w.rest.covered t is_t), rw there.access (w.rest.own t is_t));
@@ -261,7 +263,7 @@ module _ (known : Known) (a : Activation Value) (rest : List (Activation Value))
             treats_ready known (Names p) (ends (Freeing s.next)) (all_tasks types there.object.cell.access WholeFirst) (Ends (Names p) ∷ GivesBack (Names p) (Freeing s.next) (Some (pool_freed_to (home_of access s.masters))) ∷ ClearsIn (Names o) c ∷ k) (slice_set s.heap p.0 (parted there.object)) a.places below s.masters (refl, under) tt,
           );
           alters = alters_set s.heap (Followed (Names o)) p there.object (parted there.object) there.found (refl, refl, refl) (λ h. h) (λ h. inl h);
-          says = followed o (object, found, held) w.stored;
+          says = followed o (object, found, held);
         })))
 
     object_freed : (o : Id) (object : Object) (p : Id) → object_at s.heap o ≡ Some object → is_there object.stage ≡ true → slice_get object.cell.values c ≡ Some (Names p) → (w : Working known s.heap a.places s.masters (Releasing known s.heap (Names o) [] access c k)) → Fine known s.heap s.masters (freed_next named types access (Names o) c (Names p) (named.standing s.heap (Names p)) (running k (record a { operands = below }) rest s))

@@ -28,8 +28,8 @@ use Rattle.ada_sound.proofs.Stored.{Stored}
 use Rattle.ada_sound.proofs.Activations.{returned_fit}
 use Rattle.ada_sound.proofs.GivenBack.{gives_some, ArePlaced, since_back, said_back, objects_back, since_left, said_left, objects_left}
 use Rattle.ada_sound.proofs.Ready.{at_work, at_less, runs_stores, stores_ready, goes_ready, stays}
-use Rattle.ada_sound.proofs.Invariant.{held_first, outer_in, Known, Control, Rooms, Roomed, RunsOn, GoesOn, StoresOn, AreOpened, ReadyIn, Working, Stepped, Waits, WaitsSo, AllWait, IsAwaited, KeepsAll, below, outers, under_in, outer_of, owed_in, handed_at}
-use Rattle.ada_sound.proofs.Callers.{Suspension, caller_of, callers_of, known_in, Stands}
+use Rattle.ada_sound.proofs.Invariant.{held_first, outer_in, Known, Control, Rooms, Roomed, RunsOn, GoesOn, StoresOn, AreOpened, ReadyIn, Working, Stepped, Waits, WaitsSo, AllWait, IsAwaited, KeepsAll, below, outers, outer_of, owed_in, handed_at}
+use Rattle.ada_sound.proofs.Callers.{AreCalls, Suspension, caller_of, callers_of, known_in, Stands}
 
 -- What a step from one body to another keeps: it is known what it leads to, and so are the callers.
 pub record Crosses (program : Program) (before : List Object) (e : Event) (after : State) : Type 0 where
@@ -201,11 +201,6 @@ behind_body (Raising e) actuals values rest = rest
 behind_body Exiting actuals values rest = rest
 behind_body Returning actuals values rest = ended actuals values rest
 
--- Where a whole list is empty, its rest is.
-pub none_later : (us vs : List Id) → us ++ vs ≡ [] → vs ≡ []
-none_later [] vs e = e
-none_later (u ∷ us) vs e = absurd (cc e)
-
 module _ (program : Program) (a : Activation Value) (actuals : List ActualForm) (references : List Value) (k : Control) (s : State) where
   -- Whatever goes on in the caller is known there, with what its variables hold then.
   resumes : (mode : Mode) (behind : Control) (held waiting : List Value) (b : Activation Value) (rest : List (Activation Value)) (g : Suspension) (gs : List Suspension) → Stands program (g ∷ gs) (record s { activations = a ∷ b ∷ rest }) → ReadyIn (known_in program g.procedure gs) mode behind s.heap held waiting s.masters → CrossesTo program gs s.heap Quiet (resumed_in mode behind (record b { places = held; operands = waiting } ∷ rest) s)
@@ -256,15 +251,15 @@ module _ (program : Program) (a : Activation Value) (actuals : List ActualForm) 
   pub left_to : (mode : Mode) (b : Activation Value) (rest : List (Activation Value)) (g : Suspension) (gs : List Suspension) → Stands program (g ∷ gs) (record s { activations = a ∷ b ∷ rest }) → (IsAwaited k → ⊥) → ArePlaced (seen_in a.procedure (program_form program)).variables a.places → Working (known_in program a.procedure (g ∷ gs)) s.heap a.places s.masters (GoesOn (known_in program a.procedure (g ∷ gs)) mode (Returns actuals references ∷ k)) → CrossesTo program gs s.heap Quiet (resumed_in (behind_call mode) (behind_frames mode references k) (behind_body mode actuals a.places (b ∷ rest)) s)
   left_to mode b rest g gs stands none placed w = left_by mode b rest g gs stands none placed w stands.standing.waiting.0
 
-  -- Where nothing is under way in what waits for the body, nothing is in what waits behind it.
+  -- Where the activations that wait for the body wait for calls, so do those that wait behind it.
   abbrev pub LeftSettled : List Suspension → State → Type 0
-  LeftSettled gs after = (hs : List Suspension) × CrossesTo program hs s.heap Quiet after × (under_in (callers_of program gs) ≡ [] → under_in (callers_of program hs) ≡ [])
+  LeftSettled gs after = (hs : List Suspension) × CrossesTo program hs s.heap Quiet after × (AreCalls gs → AreCalls hs)
 
   pub left_settled : (mode : Mode) (rest : List (Activation Value)) (gs : List Suspension) → Stands program gs (record s { activations = a ∷ rest }) → (IsAwaited k → ⊥) → ArePlaced (seen_in a.procedure (program_form program)).variables a.places → Working (known_in program a.procedure gs) s.heap a.places s.masters (GoesOn (known_in program a.procedure gs) mode (Returns actuals references ∷ k)) → LeftSettled gs (resumed_in (behind_call mode) (behind_frames mode references k) (behind_body mode actuals a.places rest) s)
   left_settled mode [] [] stands none placed w = absurd (no_caller program a.procedure mode actuals references k w.rooms w.holds w.rest)
   left_settled mode [] (g ∷ gs) stands none placed w = absurd stands.bodies
   left_settled mode (b ∷ rest) [] stands none placed w = absurd stands.bodies
-  left_settled mode (b ∷ rest) (g ∷ gs) stands none placed w = (gs, left_to mode b rest g gs stands none placed w, none_later g.under (under_in (callers_of program gs)))
+  left_settled mode (b ∷ rest) (g ∷ gs) stands none placed w = (gs, left_to mode b rest g gs stands none placed w, λ calls. calls.1)
 
   pub left_fine : (mode : Mode) (rest : List (Activation Value)) (gs : List Suspension) → Stands program gs (record s { activations = a ∷ rest }) → (IsAwaited k → ⊥) → ArePlaced (seen_in a.procedure (program_form program)).variables a.places → Working (known_in program a.procedure gs) s.heap a.places s.masters (GoesOn (known_in program a.procedure gs) mode (Returns actuals references ∷ k)) → Crosses program s.heap Quiet (resumed_in (behind_call mode) (behind_frames mode references k) (behind_body mode actuals a.places rest) s)
   left_fine mode rest gs stands none placed w = crosses_to (left_settled mode rest gs stands none placed w).1

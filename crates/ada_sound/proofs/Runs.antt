@@ -31,9 +31,10 @@ use Rattle.ada_scopes.proofs.Runs.{step_nested}
 use Rattle.ada_idle.proofs.Runs.{step_idle}
 use Rattle.ada_idle.proofs.UnadjustedRuns.{step_adjusts_none}
 use Rattle.ada_sound.proofs.Items.{NoMaster, HasItem, has_after}
-use Rattle.ada_sound.proofs.Stored.{Stored}
-use Rattle.ada_sound.proofs.CollectsApart.{apart_where_reached}
-use Rattle.ada_sound.proofs.InOrder.{in_order}
+use Rattle.ada_sound.proofs.Stored.{AllOut, Stored}
+use Rattle.ada_sound.proofs.InOrder.{goes_well}
+use Rattle.ada_sound.proofs.SparesNewer.{spared_where_reached}
+use Rattle.ada_sound.proofs.WordsOut.{words_out}
 use Rattle.ada_sound.proofs.Trackers.{calls_stand_apart}
 use Rattle.ada_sound.proofs.Adjusting.{AdjustingCopy}
 use Rattle.ada_sound.proofs.AdjustingCopies.{WentOn, copy_goes, copy_stored}
@@ -95,14 +96,14 @@ back_out implicit p (Left master) heap after o says is = absurd (cc is)
 back_out implicit p (Line line) heap after o says is = absurd (cc is)
 back_out implicit p Quiet heap after o says is = absurd (cc is)
 
-followed_out : (implicit : Implicit) (p : ProgramForm) (e : Event) (heap : List Object) (after : State) (o : Id) → Says implicit p e heap after → followed_of e ≡ Some o → OutIn heap o
-followed_out implicit p (Born v part turn type number by) heap after o says is = absurd (cc is)
-followed_out implicit p (Finalized v part turn type number cause) heap after o says is = absurd (cc is)
-followed_out implicit p (Back v access number pool subpool cause) heap after o says is = absurd (cc is)
-followed_out implicit p (Followed v) heap after o says is = named_out heap v says.id o says.object says.is says.found says.out is
-followed_out implicit p (Left master) heap after o says is = absurd (cc is)
-followed_out implicit p (Line line) heap after o says is = absurd (cc is)
-followed_out implicit p Quiet heap after o says is = absurd (cc is)
+followed_out : (implicit : Implicit) (p : ProgramForm) (e : Event) (heap : List Object) (after : State) (o : Id) → AllOut heap → Says implicit p e heap after → followed_of e ≡ Some o → OutIn heap o
+followed_out implicit p (Born v part turn type number by) heap after o out says is = absurd (cc is)
+followed_out implicit p (Finalized v part turn type number cause) heap after o out says is = absurd (cc is)
+followed_out implicit p (Back v access number pool subpool cause) heap after o out says is = absurd (cc is)
+followed_out implicit p (Followed v) heap after o out says is = named_out heap v says.id o says.object says.is says.found (out says.id says.object says.found says.there) is
+followed_out implicit p (Left master) heap after o out says is = absurd (cc is)
+followed_out implicit p (Line line) heap after o out says is = absurd (cc is)
+followed_out implicit p Quiet heap after o out says is = absurd (cc is)
 
 -- What goes back is back after.
 back_in : (implicit : Implicit) (p : ProgramForm) (e : Event) (heap : List Object) (after : State) (o : Id) → Says implicit p e heap after → back_of e ≡ Some o → BackIn after.heap o
@@ -202,7 +203,7 @@ module _ (program : Program) (s : State) (sound : Sound program s) where
   between_step d = by (departs_next true s.control) refl
     where
       by : (b : Bool) → departs_next true s.control ≡ b → FineOn program s coming
-      by true leaves = goes_on program s coming (leaves_step program s sound d leaves)
+      by true leaves = goes_on program s coming (leaves_step program s sound (spared_where_reached program sound.well sound.spares_own sound.spares_newer s sound.reached) d leaves)
       by false treats = goes_on program s coming (treats_step program s sound d treats)
 
   -- Where no operation runs.
@@ -211,13 +212,13 @@ module _ (program : Program) (s : State) (sound : Sound program s) where
     where
       stays : (s.mode ≡ Running → departs_next (departs (ahead_in (program_form program)) (innermost s.masters)) s.control ≡ false) → FineOn program s coming
       stays none =
-          fine_on program s coming (ordinary_step program s ground o
-          (left_well program s ground o (in_order program sound.well s sound.nested (apart_where_reached program s sound.reached) (known_in program (running_procedure s) o.suspensions).program.types (same_types (running_procedure s) (program_form program)) s.masters refl))
+          fine_on program s coming (ordinary_step program s ground (words_out program s sound.reached) o
+          (left_well program s ground (words_out program s sound.reached) o (goes_well program sound.well s sound.nested (words_out program s sound.reached) (known_in program (running_procedure s) o.suspensions).program.types (same_types (running_procedure s) (program_form program)) s.masters refl))
           none)
 
       by : (b : Bool) → departs_next (departs (ahead_in (program_form program)) (innermost s.masters)) s.control ≡ b → (mode : Mode) → s.mode ≡ mode → FineOn program s coming
       by false none mode runs = stays (λ now. none)
-      by true leaves Running runs = between_step (between_here program s o runs leaves).0
+      by true leaves Running runs = between_step (between_here program s o runs (words_out program s sound.reached) leaves).0
       by true leaves (Raising e) runs = stays (λ now. cc (now, runs))
       by true leaves Exiting runs = stays (λ now. cc (now, runs))
       by true leaves Returning runs = stays (λ now. cc (now, runs))
@@ -289,6 +290,7 @@ sound_step program s choice e after r step = record {
   in_use = r.in_use;
   frees_own = r.frees_own;
   spares_own = r.spares_own;
+  spares_newer = r.spares_newer;
   lets_nothing_out = r.lets_nothing_out;
   spares_holders = r.spares_holders;
   obeys = r.obeys;
@@ -330,7 +332,7 @@ touching_housed : (program : Program) (s : State) → Touching program s → IsH
 touching_housed program s f o x found out = ((ready_stored (known_in program (running_procedure s) f.suspensions) s f.ready).1.sane o x found).housed out
 
 -- ... and where a collection goes: the state that stands for this one has the same objects but for ghosts, whose words are back.
-seen_housed : {access item : ℕ} {pool : Option ℕ} {ghosts : Id → Bool} {s v : State} → Seen access item pool ghosts s v → IsHousedIn v → IsHousedIn s
+seen_housed : {types : List ℕ} {item : ℕ} {ghosts : Id → Bool} {s v : State} → Seen types item ghosts s v → IsHousedIn v → IsHousedIn s
 seen_housed seen housed_there o x found out =
     subst (λ (ms : List Master). HasItem x.cell.home.item x.cell.access x.cell.home.pool (items_of ms)) (seen_masters seen)
     (housed_there o x (seen_at seen o (out_plain seen o x found out) ∙ found) out)
@@ -344,11 +346,11 @@ backing_housed program s d o x found out = by (same_or_not o.0 d.object.0)
         let one : x ≡ d.x = (let named : o ≡ d.object = ap (λ (n : ℕ). record { 0 = n }) same in let there = d.found in cc (named, found, there)) in
         rw (one, d.going.is) (inl (sym d.at_home, (sym d.of_access, d.from)))
     by (inr ne) =
-        let here = seen_housed d.seen (ordinary_housed program d.v d.ordinary) in
+        let here = seen_housed d.seen (ordinary_housed program d.v d.kept.ordinary) in
         here o x (set_other s.heap d.object.0 o.0 (returned d.x) ne ∙ found) out
 
 departing_housed : (program : Program) (s : State) → Departing program s → IsHousedIn s
-departing_housed program s (inl d) = seen_housed d.seen (ordinary_housed program d.v d.ordinary)
+departing_housed program s (inl d) = seen_housed d.seen (ordinary_housed program d.v d.kept.ordinary)
 departing_housed program s (inr (inl d)) = backing_housed program s d
 departing_housed program s (inr (inr d)) =
     seen_housed d.seen (elim d.goes [ inl o ↦ operating_housed program d.v o | inr f ↦ touching_housed program d.v f ])
@@ -442,7 +444,7 @@ back_once = all_pairs BackTwoObjects WentBack went_born (λ program d s choice e
 
 pub followed_before_back : {program : Program} {s last : State} {events : List Event} → Run program s events last → Sound program s → AllPairs FollowedBeforeBack events
 unfolding WentBack
-followed_before_back = all_pairs FollowedBeforeBack WentBack went_born (λ program d s choice e after r step h. let st = stepped program s choice e after r step in (differ_out s.heap (back_of d) (followed_of e) h (λ o is. followed_out st.implicit st.body e s.heap after o st.says is), went_kept program d s e after st h))
+followed_before_back = all_pairs FollowedBeforeBack WentBack went_born (λ program d s choice e after r step h. let st = stepped program s choice e after r step in (differ_out s.heap (back_of d) (followed_of e) h (λ o is. followed_out st.implicit st.body e s.heap after o (words_out program s r.reached) st.says is), went_kept program d s e after st h))
 
 -- Words go back home.
 pub back_home : {program : Program} {s last : State} {events : List Event} → Run program s events last → Sound program s → All (IsBackHome last.heap) events

@@ -1,10 +1,9 @@
--- A state that stands for the real one, in which some objects of a collection that have gone exist still, has what steps rest on, as the real one has: values are of
--- their kinds, collections nest, and finalization leaves the rest. Bodies that shun the access type run there as in the real one.
+-- A state that stands for the real one, in which some objects that have gone with their collections exist still, has what steps rest on, as the real one has: values are
+-- of their kinds, collections nest, and finalization leaves the rest. Bodies that shun the types of those objects run there as in the real one.
 
-use Rattle.std.proofs.Common.{◌≡◌, ◌<◌, ℕ, Bool, true, false, not, List, [], ◌∷◌, ◌++◌, Option, Some, refl, sym, ap, ◌∙◌, subst, inl, inr}
+use Rattle.std.proofs.Common.{◌≡◌, ℕ, Bool, true, false, not, List, [], ◌∷◌, Some, refl, sym, ap, ◌∙◌, subst}
 use Rattle.ada_program.specs.declared.program.Program.{Program}
 use Rattle.ada_program.specs.declared.program.TypeDefinition.{TypeDefinition}
-use Rattle.ada_program.specs.Form.{DeclarationForm, StmtsForm, HandlersForm}
 use Rattle.ada_program.specs.Nested.{Callees, callees_of, collected}
 use Rattle.ada_program.specs.ProgramForm.{TypeForm, BodyForm, ProgramForm, program_form, body_forms, seen_in}
 use Rattle.ada_program.specs.WellFormed.{is_access}
@@ -28,16 +27,16 @@ use Rattle.ada_meaning.specs.Frame as frame
 use Rattle.ada_meaning.specs.Heap.{Cell}
 use Rattle.ada_meaning.specs.Law.{items_of}
 use Rattle.ada_meaning.specs.Named.{Object, State, Next, named, object_at, all_alive, next}
-use Rattle.ada_meaning.specs.State.{Item, Master, collection, height}
+use Rattle.ada_meaning.specs.State.{Item, Master, Owned}
 use Rattle.ada_meaning.specs.Step.{halts, moves, tells, asks, picks, older, operands_of, procedure_of, treats_next}
 use Rattle.ada_parts.specs.Task.{Task, next as task_next}
 use Rattle.ada_quiet.specs.Apart.{is_tracker}
 use Rattle.ada_quiet.specs.Idle.{holds_parts}
 use Rattle.ada_reaching.specs.Apart.{Apart}
 use Rattle.ada_reaching.specs.Law.{none_hidden}
-use Rattle.ada_reaching.specs.Reaching.{AreLow, IsOfShunned, IsReaching, OperandSeeks, Seeks, none_unnamed}
+use Rattle.ada_reaching.specs.Reaching.{AreLow, IsOfShunned, IsReaching, LeftShuns, OperandSeeks, Seeks, none_unnamed}
 use Rattle.ada_scopes.proofs.Control.{Nested, standing, beginning, parting, resting, whole_heap}
-use Rattle.ada_scopes.proofs.Homes.{HasHome, Housed, IsAtHome}
+use Rattle.ada_scopes.proofs.Homes.{Housed}
 use Rattle.ada_scopes.proofs.Runs.{Scoped, calls_in}
 use Rattle.ada_typed.proofs.Control as typed
 use Rattle.ada_typed.proofs.Kept.{behind_call}
@@ -47,15 +46,16 @@ use Rattle.ada_untouched.proofs.Law.{steps_alike}
 use Rattle.ada_untouched.specs.Alike.{NextAlike, is_ghost}
 use Rattle.ada_untouched.specs.Untouched.{Untouched}
 use Rattle.ada_sound.proofs.CallsApart.{CallApart}
-use Rattle.ada_sound.proofs.Departing.{IsLeft, Seen, next_member, treated, confined, ended, revived}
+use Rattle.ada_sound.proofs.Departing.{IsLeft, Seen, has_gone, next_member, treated, confined, ended}
 use Rattle.ada_sound.specs.Always.{reaches_holder}
 use Rattle.ada_sound.proofs.FreesInside.{FreesNoneInside}
-use Rattle.ada_sound.proofs.Grounds.{Grounds, IsReached, may_free}
+use Rattle.ada_sound.proofs.Grounds.{Grounds, IsLeftAlone, IsReached, is_ending, may_free}
 use Rattle.ada_sound.proofs.Fits.{Outsiders}
 use Rattle.ada_sound.proofs.Invariant.{Control}
 use Rattle.ada_sound.proofs.Operating.{IsCalm}
-use Rattle.ada_sound.proofs.SeenStates.{real_there, seen_at, seen_cells, seen_control, seen_mode, seen_there}
+use Rattle.ada_sound.proofs.SeenStates.{departed_ghost, departed_of, real_there, seen_at, seen_cells, seen_control, seen_listed, seen_mode, seen_there}
 use Rattle.ada_sound.proofs.Standing.{FinalizesIn, any_type}
+use Rattle.ada_sound.proofs.Stored.{AllOut, HasDeparted}
 
 -- Values are of their kinds where the same lies in objects.
 module _ (p : ProgramForm) (s : State) (heap : List Object) (same : cells_of heap ≡ cells_of s.heap) where
@@ -90,64 +90,20 @@ module _ (p : ProgramForm) (s : State) (heap : List Object) (same : cells_of hea
     waiting = subst (λ (cells : Cells). typed.Waiting p cells (procedure_of s.activations) s.control (older s.activations)) (sym same) typing.waiting;
   }
 
--- What the home of the ghosts is among: the items of all masters; and where a part begins, those of the masters around it.
-pub record HasHomeThere (access item : ℕ) (pool : Option ℕ) (s : State) : Type 0 where
-  pub home : HasHome item access pool (items_of s.masters)
-  pub around :
-      (ds : List DeclarationForm) (fs : StmtsForm) (hs : HandlersForm) (k : Control) (m : Master) (rest : List Master)
-      → s.control ≡ frame.Elaborates ds fs hs ∷ k → s.masters ≡ m ∷ rest → HasHome item access pool (items_of rest)
-
--- A home is among these items, where it is among the later ones.
-has_after : (n access : ℕ) (pool : Option ℕ) (is js : List Item) → HasHome n access pool js → HasHome n access pool (is ++ js)
-has_after n access pool [] js h = h
-has_after n access pool (i ∷ is) js h = inr (has_after n access pool is js h)
-
--- The newest item of the innermost master is their home.
-pub newest_home : (access item number : ℕ) (pool : Option ℕ) (items : List Item) (outer masters : List Master)
-    → masters ≡ record { number = number; items = record { number = item; owned = collection access pool } ∷ items } ∷ outer → HasHome item access pool (items_of masters)
-newest_home access item number pool items outer masters is = rw is (inl (refl, refl, refl))
-
--- Their home is among the items of outer masters.
-pub home_below : (access item : ℕ) (pool : Option ℕ) (upper lower : List Master) → HasHome item access pool (items_of lower) → HasHome item access pool (items_of (upper ++ lower))
-home_below access item pool [] lower h = h
-home_below access item pool (m ∷ upper) lower h = has_after item access pool m.items (items_of (upper ++ lower)) (home_below access item pool upper lower h)
-
--- So it is in the state, where some masters are around the inner ones; where a part begins, its own master is one of the inner ones.
-pub home_around :
-    (access item : ℕ) (pool : Option ℕ) (s : State) (upper lower : List Master) → s.masters ≡ upper ++ lower → HasHome item access pool (items_of lower)
-    → ((ds : List DeclarationForm) (fs : StmtsForm) (hs : HandlersForm) (k : Control) → s.control ≡ frame.Elaborates ds fs hs ∷ k → (m : Master) × (ms : List Master) × (upper ≡ m ∷ ms))
-    → HasHomeThere access item pool s
-home_around access item pool s upper lower masters home inner = record {
-  home = rw masters (home_below access item pool upper lower home);
-  around = λ ds fs hs k m rest is at.
-      let own = inner ds fs hs k is in
-      let both : own.0 ∷ (own.1 ++ lower) ≡ m ∷ rest = subst (λ (ms : List Master). ms ++ lower ≡ m ∷ rest) own.2 (sym masters ∙ at) in
-      let rest_is : own.1 ++ lower ≡ rest = cc both in
-      subst (λ (ms : List Master). HasHome item access pool (items_of ms)) rest_is (home_below access item pool own.1 lower home);
-}
-
 -- What steps rest on.
-module _ {access item : ℕ} {pool : Option ℕ} {ghosts : Id → Bool} {s v : State} (seen : Seen access item pool ghosts s v) where
+module _ {types : List ℕ} {item : ℕ} {ghosts : Id → Bool} {s v : State} (seen : Seen types item ghosts s v) where
   -- Values are of their kinds.
   pub seen_typed : (p : ProgramForm) → typed.Typed p s → typed.Typed p v
   seen_typed p typing = subst (λ (z : State). typed.Typed p z) (sym seen.alike.rest) (typed_so p s v.heap (seen_cells seen) typing)
 
-  -- Each object that is in its collection has that among the items, the ghosts too.
-  housed_seen : (is : List Item) → HasHome item access pool is → Housed s.heap is → Housed v.heap is
-  housed_seen is home housed o x found listed = by (ghosts o) refl
-    where
-      by : (b : Bool) → ghosts o ≡ b → IsAtHome is x
-      by true ghost =
-          let d = seen.departed o ghost in
-          let same : revived d.object ≡ x = cc (d.is, found) in
-          let cell : d.object.cell ≡ x.cell = ap (λ (z : Object). z.cell) same in
-          subst (λ (c : Cell Value). HasHome c.home.item c.access c.home.pool is) cell (rw (d.at_home, d.of_access, d.from) home)
-      by false plain = housed o x (sym (seen_at seen o plain) ∙ found) listed
+  -- Each object that is in its collection has that among the items: it is no ghost.
+  housed_seen : (is : List Item) → Housed s.heap is → Housed v.heap is
+  housed_seen is housed o x found listed = housed o x (sym (seen_at seen o (seen_listed seen o x found listed)) ∙ found) listed
 
   -- Collections nest.
-  nested_seen : (types : List TypeForm) (callees : Callees) (main : List ℕ) (calling : Bool) → HasHomeThere access item pool s → Nested types callees main calling s → Nested types callees main calling (record s { heap = v.heap })
-  nested_seen types callees main calling home (standing ss w n) = standing ss (whole_heap types ss s.masters s.heap v.heap (housed_seen (items_of s.masters) home.home w.housed) w) n
-  nested_seen types callees main calling home (beginning b) = beginning (record {
+  nested_seen : (forms : List TypeForm) (callees : Callees) (main : List ℕ) (calling : Bool) → Nested forms callees main calling s → Nested forms callees main calling (record s { heap = v.heap })
+  nested_seen forms callees main calling (standing ss w n) = standing ss (whole_heap forms ss s.masters s.heap v.heap (housed_seen (items_of s.masters) w.housed) w) n
+  nested_seen forms callees main calling (beginning b) = beginning (record {
     ss = b.ss;
     m = b.m;
     rest = b.rest;
@@ -166,7 +122,7 @@ module _ {access item : ℕ} {pool : Option ℕ} {ghosts : Id → Bool} {s v : S
       left = b.growing.left;
       here = b.growing.here;
       outer = b.growing.outer;
-      housed = housed_seen (items_of b.rest) (home.around b.ds b.fs b.hs b.k b.m b.rest b.control b.masters) b.growing.housed;
+      housed = housed_seen (items_of b.rest) b.growing.housed;
       accesses = b.growing.accesses;
       fit = b.growing.fit;
       own = b.growing.own;
@@ -181,17 +137,17 @@ module _ {access item : ℕ} {pool : Option ℕ} {ghosts : Id → Bool} {s v : S
     handlers = b.handlers;
     nests = b.nests;
   })
-  nested_seen types callees main calling home (parting ss w runs goes) = parting ss (whole_heap types ss s.masters s.heap v.heap (housed_seen (items_of s.masters) home.home w.housed) w) runs goes
-  nested_seen types callees main calling home (resting ss w none ends) = resting ss (whole_heap types ss s.masters s.heap v.heap (housed_seen (items_of s.masters) home.home w.housed) w) none ends
+  nested_seen forms callees main calling (parting ss w runs goes) = parting ss (whole_heap forms ss s.masters s.heap v.heap (housed_seen (items_of s.masters) w.housed) w) runs goes
+  nested_seen forms callees main calling (resting ss w none ends) = resting ss (whole_heap forms ss s.masters s.heap v.heap (housed_seen (items_of s.masters) w.housed) w) none ends
 
-  pub seen_scoped : (p : ProgramForm) → HasHomeThere access item pool s → Scoped p s → Scoped p v
-  seen_scoped p home scoped = record {
+  pub seen_scoped : (p : ProgramForm) → Scoped p s → Scoped p v
+  seen_scoped p scoped = record {
     bodies = scoped.bodies;
     nested = subst (λ (z : State). Nested p.types (callees_of p) (collected p.declarations) (calls_in p) z) (sym seen.alike.rest)
-        (nested_seen p.types (callees_of p) (collected p.declarations) (calls_in p) home scoped.nested);
+        (nested_seen p.types (callees_of p) (collected p.declarations) (calls_in p) scoped.nested);
   }
 
-  -- Bodies that shun the access type run.
+  -- Bodies that shun some types run.
   module _ (p : ProgramForm) (shuns : ℕ → Bool) (apart : Apart) (behind : Control) (lower : List Master) where
     -- What is sought from the newest operand is the same.
     seeks_seen : (m : Mode) (k : Control) (vs : List Value) → OperandSeeks p.types shuns apart ghosts s.heap m k vs → OperandSeeks p.types shuns apart ghosts v.heap m k vs
@@ -211,18 +167,16 @@ module _ {access item : ℕ} {pool : Option ℕ} {ghosts : Id → Bool} {s v : S
           accessed = subst (λ (c : Cell Value). is_access p.types c.access ≡ true) (sym y.2) g.accessed;
         }
 
-    -- The home of each ghost is the same.
-    low_seen : AreLow ghosts lower s.heap → AreLow ghosts lower v.heap
-    low_seen low = λ o y ghost found.
-        let x = real_there seen o y found in
-        subst (λ (c : Cell Value). c.home.item < height lower) (sym x.2) (low o x.0 ghost x.1)
+    -- No ghost is in its collection.
+    low_seen : AreLow ghosts lower v.heap
+    low_seen o y ghost found listed = let plain = seen_listed seen o y found listed in absurd (cc (ghost, plain))
 
     -- So they do in the state that stands for the real one.
     pub reaching_seen : IsReaching p shuns apart ghosts none_unnamed behind lower s → IsReaching p shuns apart ghosts none_unnamed behind lower v
     reaching_seen r = subst (λ (z : State). IsReaching p shuns apart ghosts none_unnamed behind lower z) (sym seen.alike.rest) (record {
       ghosts_there = λ o is. shunned_seen o (r.ghosts_there o is);
       are_ghosts = r.are_ghosts;
-      low = low_seen r.low;
+      low = low_seen;
       places = r.places;
       operands = r.operands;
       upper = r.upper;
@@ -231,6 +185,13 @@ module _ {access item : ℕ} {pool : Option ℕ} {ghosts : Id → Bool} {s v : S
       jumps = r.jumps;
       seeks = seeks_seen s.mode s.control (operands_of s.activations) r.seeks;
     })
+
+-- Where bodies run that shun some types, no ghost is treated next.
+pub reaching_untreated :
+    (p : ProgramForm) (shuns : ℕ → Bool) (apart : Apart) (ghosts unnamed : Id → Bool) (behind : Control) (lower : List Master) (s : State) → IsReaching p shuns apart ghosts unnamed behind lower s
+    → (w : Value) (treatment : Treatment) (tasks : List Task) (k : Control) → s.control ≡ frame.Treats w treatment tasks ∷ k → is_ghost ghosts w ≡ false
+reaching_untreated p shuns apart ghosts unnamed behind lower s r w treatment tasks k is =
+    (subst (λ (c : Control). LeftShuns p shuns apart ghosts unnamed behind lower (procedure_of s.activations) c r.upper (older s.activations)) is r.control).0.0
 
 -- What halts.
 halts_so : (ghosts : Id → Bool) (n m : Next) (halt : Halt) → NextAlike none_hidden ghosts n m → m ≡ halts halt → n ≡ halts halt
@@ -256,7 +217,7 @@ abbrev NeverTwice : Next → Type 0
 NeverTwice n = n ≡ halts (Erroneous FinalizesTwice) → ⊥
 
 -- The grounds.
-module _ (program : Program) {access item : ℕ} {pool : Option ℕ} {ghosts : Id → Bool} {s v : State} (seen : Seen access item pool ghosts s v) where
+module _ (program : Program) {types : List ℕ} {item : ℕ} {ghosts : Id → Bool} {s v : State} (seen : Seen types item ghosts s v) where
   abbrev tds : List TypeDefinition
   tds = program.types.items
 
@@ -276,15 +237,15 @@ module _ (program : Program) {access item : ℕ} {pool : Option ℕ} {ghosts : I
 
   -- No treatment comes to a value that does not exist, where nothing is freed next, and no ghost is treated.
   finalizes_so :
-      (types : List TypeForm) (outer : Outsiders) (m : Mode) (k : Control) → begins_freeing k ≡ false
+      (own : List TypeForm) (outer : Outsiders) (m : Mode) (k : Control) → begins_freeing k ≡ false
       → ((w : Value) (treatment : Treatment) (tasks : List Task) (j : Control) → k ≡ frame.Treats w treatment tasks ∷ j → is_ghost ghosts w ≡ false)
-      → FinalizesIn any_type types outer tds bodies m k s → FinalizesIn any_type types outer tds bodies m k v
-  finalizes_so types outer Running (frame.Does fs ∷ k) none plain f = absurd (cc none)
-  finalizes_so types outer Running (frame.FreesIn t c ∷ k) none plain f = absurd (cc none)
-  finalizes_so types outer Running (frame.Treats w treatment tasks ∷ k) none plain f = λ twice.
+      → FinalizesIn any_type own outer tds bodies m k s → FinalizesIn any_type own outer tds bodies m k v
+  finalizes_so own outer Running (frame.Does fs ∷ k) none plain f = absurd (cc none)
+  finalizes_so own outer Running (frame.FreesIn t c ∷ k) none plain f = absurd (cc none)
+  finalizes_so own outer Running (frame.Treats w treatment tasks ∷ k) none plain f = λ twice.
       f (halts_so ghosts (treats_next named tds bodies w treatment tasks (task_next tasks) (record s { mode = Running; control = k })) (treats_next named tds bodies w treatment tasks (task_next tasks) (record v { mode = Running; control = k })) (Erroneous FinalizesTwice)
       (treats_alike w treatment tasks k (plain w treatment tasks k refl)) twice)
-  finalizes_so types outer m k none plain f = tt
+  finalizes_so own outer m k none plain f = tt
 
   -- What the running body may free is the same.
   may_free_so : (t : ℕ) → may_free program v t ≡ may_free program s t
@@ -327,31 +288,33 @@ module _ (program : Program) {access item : ℕ} {pool : Option ℕ} {ghosts : I
         by true ghost = none_of_ghost o ghost
         by false plain = grounds.unrun o x (sym (seen_at seen o plain) ∙ found) listed (subst (NothingBegins (Names o)) (seen_control seen) none)
 
-    module _ (spares : (IsCalm (behind_call s.control) → ⊥) → may_free program s access ≡ false) where
-      -- Such an object stands, if the running body may free it, while an operation runs.
-      stands_so : (IsCalm (behind_call v.control) → ⊥) → (o : Id) (x : Object) → object_at v.heap o ≡ Some x → x.listed ≡ true → NothingBegins (Names o) v.control → may_free program v x.cell.access ≡ true
-          → all_alive x.cell.parts ≡ true
-      stands_so runs o x found listed none may = by (ghosts o) refl
-        where
-          runs_so : IsCalm (behind_call s.control) → ⊥
-          runs_so = subst (λ (k : Control). IsCalm (behind_call k) → ⊥) (seen_control seen) runs
+    -- Such an object stands, if the running body may free it, while an operation runs: it is no ghost.
+    stands_so : (IsCalm (behind_call v.control) → ⊥) → (o : Id) (x : Object) → object_at v.heap o ≡ Some x → x.listed ≡ true → NothingBegins (Names o) v.control → may_free program v x.cell.access ≡ true
+        → all_alive x.cell.parts ≡ true
+    stands_so runs o x found listed none may =
+        grounds.stands (subst (λ (k : Control). IsCalm (behind_call k) → ⊥) (seen_control seen) runs) o x (sym (seen_at seen o (seen_listed seen o x found listed)) ∙ found) listed
+        (subst (NothingBegins (Names o)) (seen_control seen) none) (sym (may_free_so x.cell.access) ∙ may)
 
-          by : (b : Bool) → ghosts o ≡ b → all_alive x.cell.parts ≡ true
-          by true ghost =
-              let d = seen.departed o ghost in
-              let same : revived d.object ≡ x = cc (d.is, found) in
-              let of_access : x.cell.access ≡ access = ap (λ (z : Object). z.cell.access) (sym same) ∙ d.of_access in
-              let may_so : may_free program s access ≡ true = subst (λ (t : ℕ). may_free program s t ≡ true) of_access (sym (may_free_so x.cell.access) ∙ may) in
-              let never : true ≡ false = sym may_so ∙ spares runs_so in
-              absurd (cc never)
-          by false plain = grounds.stands runs_so o x (sym (seen_at seen o plain) ∙ found) listed (subst (NothingBegins (Names o)) (seen_control seen) none) (sym (may_free_so x.cell.access) ∙ may)
+    -- What has gone with its collection is left alone: of all that is there in the real state the words are out, so it is a ghost; none is treated next; an operation
+    -- runs, or a master's objects are being ended; and the running body frees none of their types.
+    module _ (out : AllOut s.heap) (untreated : (w : Value) (treatment : Treatment) (tasks : List Task) (k : Control) → s.control ≡ frame.Treats w treatment tasks ∷ k → is_ghost ghosts w ≡ false)
+        (inside : is_ending s.control ≡ false → IsCalm (behind_call s.control) → ⊥) (spares : (IsCalm (behind_call s.control) → ⊥) → (t : ℕ) → has_gone types t ≡ true → may_free program s t ≡ false) where
+      departed_so : (o : Id) (x : Object) → HasDeparted v.heap o x → IsLeftAlone program v o x
+      departed_so o x h =
+          let ghost = departed_ghost seen out o x h in
+          record {
+            unrun = subst (NoOperationRunsOn (Names o)) (sym (seen_control seen)) (none_of_ghost o ghost);
+            untreated = λ treatment tasks k is. let plain = untreated (Names o) treatment tasks k (sym (seen_control seen) ∙ is) in cc (plain, ghost);
+            inside = subst (λ (k : Control). is_ending k ≡ false → IsCalm (behind_call k) → ⊥) (sym (seen_control seen)) inside;
+            unfreed = λ runs.
+                may_free_so x.cell.access ∙ spares (subst (λ (k : Control). IsCalm (behind_call k) → ⊥) (seen_control seen) runs) x.cell.access (departed_of seen out o x h).0;
+          }
 
-      -- The state that stands for the real one has them as well, where this is so of what is treated next.
+      -- The state that stands for the real one has the grounds as well, where this is so of what is treated next.
       grounds_so :
-          HasHomeThere access item pool s
-          → ((w : Value) (treatment : Treatment) (tasks : List Task) (k : Control) → s.control ≡ frame.Treats w treatment tasks ∷ k → Untouched none_hidden ghosts s)
-          → (IsCalm (behind_call v.control) → (types : List TypeForm) (outer : Outsiders) → FinalizesIn any_type types outer tds bodies v.mode v.control v) → Grounds program v
-      grounds_so home untouched finalizes = record {
+          ((w : Value) (treatment : Treatment) (tasks : List Task) (k : Control) → s.control ≡ frame.Treats w treatment tasks ∷ k → Untouched none_hidden ghosts s)
+          → (IsCalm (behind_call v.control) → (forms : List TypeForm) (outer : Outsiders) → FinalizesIn any_type forms outer tds bodies v.mode v.control v) → Grounds program v
+      grounds_so untouched finalizes = record {
         well = grounds.well;
         in_use = grounds.in_use;
         frees_own = grounds.frees_own;
@@ -366,11 +329,12 @@ module _ (program : Program) {access item : ℕ} {pool : Option ℕ} {ghosts : I
         apart = λ stand. subst (CallApart forms (is_tracker (program_form program))) (sym (seen_control seen)) (grounds.apart stand);
         releases = λ may made. subst (FreesNoneInside (reaches_holder (implicit_of (program_form program)) forms)) (sym (seen_control seen)) (grounds.releases may made);
         typed = seen_typed seen (program_form program) grounds.typed;
-        nested = seen_scoped seen (program_form program) home grounds.nested;
+        nested = seen_scoped seen (program_form program) grounds.nested;
         finalizes = finalizes;
         unborn = λ o none. unborn_so o none;
         unrun = λ o x found listed none. unrun_so o x found listed none;
         stands = λ runs o x found listed none may. stands_so runs o x found listed none may;
+        departed = λ o x h. departed_so o x h;
         exist = λ w treatment tasks k is alone twice.
             let here : s.control ≡ frame.Treats w treatment tasks ∷ k = sym (seen_control seen) ∙ is in
             grounds.exist w treatment tasks k here alone
@@ -385,36 +349,40 @@ module _ (program : Program) {access item : ℕ} {pool : Option ℕ} {ghosts : I
         adjusts_alone = λ still w cause tasks first t k is. grounds.adjusts_alone (subst NoOperationRuns (seen_control seen) still) w cause tasks first t k (sym (seen_control seen) ∙ is);
       }
 
-    -- While an operation runs that does not free objects of the collection, and looks at no ghost.
-    pub seen_grounds_within : HasHomeThere access item pool s → Untouched none_hidden ghosts s → (IsCalm (behind_call s.control) → ⊥) → may_free program s access ≡ false → Grounds program v
-    seen_grounds_within home untouched runs spares =
-        grounds_so (λ so. spares) home (λ w treatment tasks k is. untouched) (λ calm types outer. absurd (runs (subst (λ (k : Control). IsCalm (behind_call k)) (seen_control seen) calm)))
+    -- While an operation runs that frees no objects of those types, and looks at no ghost.
+    pub seen_grounds_within :
+        AllOut s.heap → Untouched none_hidden ghosts s
+        → ((w : Value) (treatment : Treatment) (tasks : List Task) (k : Control) → s.control ≡ frame.Treats w treatment tasks ∷ k → is_ghost ghosts w ≡ false)
+        → (IsCalm (behind_call s.control) → ⊥) → ((t : ℕ) → has_gone types t ≡ true → may_free program s t ≡ false) → Grounds program v
+    seen_grounds_within out untouched untreated runs spares =
+        grounds_so out untreated (λ ending. runs) (λ so. spares) (λ w treatment tasks k is. untouched)
+        (λ calm forms outer. absurd (runs (subst (λ (k : Control). IsCalm (behind_call k)) (seen_control seen) calm)))
 
     -- Where no operation runs: what is treated next is no ghost.
-    module _ (master : ℕ) where
+    module _ (owned : Owned) (master : ℕ) where
       abbrev Left : Control → Type 0
-      Left = IsLeft access master item pool ghosts s.heap
+      Left = IsLeft owned master item ghosts s.heap
 
       -- Nothing is freed next.
       left_frees_none : (k : Control) → Left k → begins_freeing k ≡ false
       left_frees_none _ (next_member mode k) = refl
-      left_frees_none _ (treated o tasks mode k plain has) = refl
-      left_frees_none _ (confined o tasks mode k plain has) = refl
-      left_frees_none _ (ended o mode k plain has) = refl
+      left_frees_none _ (treated access pool o tasks mode k of plain has) = refl
+      left_frees_none _ (confined access pool o tasks mode k of plain has) = refl
+      left_frees_none _ (ended access pool o mode k of plain has) = refl
+
+      -- A master's objects are being ended.
+      left_ending : (k : Control) → Left k → is_ending k ≡ true
+      left_ending _ (next_member mode k) = refl
+      left_ending _ (treated access pool o tasks mode k of plain has) = refl
+      left_ending _ (confined access pool o tasks mode k of plain has) = refl
+      left_ending _ (ended access pool o mode k of plain has) = refl
 
       -- What is treated next is no ghost.
       left_plain : (k : Control) → Left k → (w : Value) (treatment : Treatment) (tasks : List Task) (j : Control) → k ≡ frame.Treats w treatment tasks ∷ j → is_ghost ghosts w ≡ false
       left_plain _ (next_member mode k) w treatment tasks j is = absurd (cc is)
-      left_plain _ (treated o left mode k plain has) w treatment tasks j is = let same : Names o ≡ w = cc is in subst (λ (u : Value). is_ghost ghosts u ≡ false) same plain
-      left_plain _ (confined o left mode k plain has) w treatment tasks j is = absurd (cc is)
-      left_plain _ (ended o mode k plain has) w treatment tasks j is = absurd (cc is)
-
-      -- No part begins.
-      left_begins_none : (k : Control) → Left k → (ds : List DeclarationForm) (fs : StmtsForm) (hs : HandlersForm) (j : Control) → k ≡ frame.Elaborates ds fs hs ∷ j → ⊥
-      left_begins_none _ (next_member mode k) ds fs hs j is = cc is
-      left_begins_none _ (treated o left mode k plain has) ds fs hs j is = cc is
-      left_begins_none _ (confined o left mode k plain has) ds fs hs j is = cc is
-      left_begins_none _ (ended o mode k plain has) ds fs hs j is = cc is
+      left_plain _ (treated access pool o left mode k of plain has) w treatment tasks j is = let same : Names o ≡ w = cc is in subst (λ (u : Value). is_ghost ghosts u ≡ false) same plain
+      left_plain _ (confined access pool o left mode k of plain has) w treatment tasks j is = absurd (cc is)
+      left_plain _ (ended access pool o mode k of plain has) w treatment tasks j is = absurd (cc is)
 
       -- So the step looks at no ghost.
       left_untouched :
@@ -423,12 +391,11 @@ module _ (program : Program) {access item : ℕ} {pool : Option ℕ} {ghosts : I
       left_untouched m k mode control runs w treatment tasks j is plain = rw (mode, runs, control, is) plain
 
       -- So the state that stands for the real one has its grounds there.
-      pub seen_grounds_between : HasHome item access pool (items_of s.masters) → s.mode ≡ Running → IsLeft access master item pool ghosts s.heap s.control → IsCalm (behind_call s.control) → Grounds program v
-      seen_grounds_between home runs left calm =
-          grounds_so (λ so. absurd (so calm))
-          (record { home = home; around = λ ds fs hs k m rest is masters. absurd (left_begins_none s.control left ds fs hs k is) })
+      pub seen_grounds_between : AllOut s.heap → s.mode ≡ Running → IsLeft owned master item ghosts s.heap s.control → IsCalm (behind_call s.control) → Grounds program v
+      seen_grounds_between out runs left calm =
+          grounds_so out (left_plain s.control left) (λ none. let ending = left_ending s.control left in absurd (cc (none, ending))) (λ so. absurd (so calm))
           (λ w treatment tasks k is. left_untouched s.mode s.control refl refl runs w treatment tasks k is (left_plain s.control left w treatment tasks k is))
-          (λ so types outer.
-          subst (λ (m : Mode). FinalizesIn any_type types outer tds bodies m v.control v) (sym (seen_mode seen))
-          (subst (λ (k : Control). FinalizesIn any_type types outer tds bodies s.mode k v) (sym (seen_control seen))
-          (finalizes_so types outer s.mode s.control (left_frees_none s.control left) (left_plain s.control left) (grounds.finalizes calm types outer))))
+          (λ so forms outer.
+          subst (λ (m : Mode). FinalizesIn any_type forms outer tds bodies m v.control v) (sym (seen_mode seen))
+          (subst (λ (k : Control). FinalizesIn any_type forms outer tds bodies s.mode k v) (sym (seen_control seen))
+          (finalizes_so forms outer s.mode s.control (left_frees_none s.control left) (left_plain s.control left) (grounds.finalizes calm forms outer))))

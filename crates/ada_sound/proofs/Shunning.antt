@@ -1,4 +1,4 @@
--- Frugal bodies are of the shape of bodies that shun access types (3.10). They call such procedures alone; and where they use no value of a type, neither does
+-- Frugal bodies are of the shape of bodies that shun access types (3.10). They call such procedures alone; and where they use no value of some types, neither does
 -- what they call, nor the start of what they allocate or declare, nor the end of what they free or declare (4.1, 4.8, 7.6, 7.6.1, 13.11.2).
 
 use Rattle.std.proofs.Common.{◌≡◌, ℕ, Bool, true, false, not, ◌==◌, ◌&&◌, ◌||◌, if◌then◌else◌, List, [], ◌∷◌, length, Option, Some, None, refl, sym, subst, inl, inr}
@@ -122,29 +122,29 @@ following u = deed.Follows (record { 0 = u })
 abbrev pub calling : (procedure : ℕ) → Callee
 calling n = callee.Procedure (record { 0 = n })
 
--- A deed is a use of an access type of the program: a value of it is freed or followed.
-abbrev pub is_use : ProgramForm → (access : ℕ) → Deed → Bool
-is_use p u (deed.Raises e) = false
-is_use p u (deed.Frees t) = (u == t.0) && nat_lt t.0 (length p.types)
-is_use p u (deed.Follows t) = (u == t.0) && nat_lt t.0 (length p.types)
-is_use p u deed.Allocates = false
-is_use p u deed.Calls = false
+-- A deed is a use of one of these types of the program: a value of it is freed or followed.
+abbrev pub is_use : ProgramForm → (shuns : ℕ → Bool) → Deed → Bool
+is_use p shuns (deed.Raises e) = false
+is_use p shuns (deed.Frees t) = shuns t.0 && nat_lt t.0 (length p.types)
+is_use p shuns (deed.Follows t) = shuns t.0 && nat_lt t.0 (length p.types)
+is_use p shuns deed.Allocates = false
+is_use p shuns deed.Calls = false
 
--- What is done is no use of it.
-abbrev pub Spares : ProgramForm → (access : ℕ) → (done : Deed → Bool) → Type 0
-Spares p u done = (d : Deed) → is_use p u d ≡ true → done d ≡ false
+-- What is done is no use of them.
+abbrev pub Spares : ProgramForm → (shuns : ℕ → Bool) → (done : Deed → Bool) → Type 0
+Spares p shuns done = (d : Deed) → is_use p shuns d ≡ true → done d ≡ false
 
-module _ (p : ProgramForm) (u : ℕ) where
+module _ (p : ProgramForm) (shuns : ℕ → Bool) where
   -- Where neither of two is a use, the first one is not,
-  pub first : (a b : Deed → Bool) → Spares p u (λ d. a d || b d) → Spares p u a
+  pub first : (a b : Deed → Bool) → Spares p shuns (λ d. a d || b d) → Spares p shuns a
   first a b spares d is = (or_parts (a d) (b d) (spares d is)).0
 
   -- and neither is the second one.
-  pub second : (a b : Deed → Bool) → Spares p u (λ d. a d || b d) → Spares p u b
+  pub second : (a b : Deed → Bool) → Spares p shuns (λ d. a d || b d) → Spares p shuns b
   second a b spares d is = (or_parts (a d) (b d) (spares d is)).1
 
   -- Handlers take no use from what statements do (11.4).
-  left_spares : (hs : HandlersForm) (done : Deed → Bool) → Spares p u (λ d. is_left hs d && done d) → Spares p u done
+  left_spares : (hs : HandlersForm) (done : Deed → Bool) → Spares p shuns (λ d. is_left hs d && done d) → Spares p shuns done
   left_spares hs done spares (deed.Raises e) is = absurd (cc is)
   left_spares hs done spares (deed.Frees t) is = spares (deed.Frees t) is
   left_spares hs done spares (deed.Follows t) is = spares (deed.Follows t) is
@@ -154,15 +154,15 @@ module _ (p : ProgramForm) (u : ℕ) where
   -- Each such procedure of which a call is no use may be called,
   abbrev pub CallsFrugal : Apart → Type 0
   CallsFrugal apart =
-      (n : ℕ) → slice_index_or (frugal_procedures p) n false ≡ true → Spares p u (λ d. procedure_does (does_by p d) n) → apart.calls n ≡ true
+      (n : ℕ) → slice_index_or (frugal_procedures p) n false ≡ true → Spares p shuns (λ d. procedure_does (does_by p d) n) → apart.calls n ≡ true
 
   -- objects of each type may end whose end is no use (7.6.1),
   abbrev pub EndsSpared : Apart → Type 0
-  EndsSpared apart = (t : ℕ) → Spares p u (λ d. parts_do (does_by p d) Finalize (record_at p.types t)) → apart.ends t ≡ true
+  EndsSpared apart = (t : ℕ) → Spares p shuns (λ d. parts_do (does_by p d) Finalize (record_at p.types t)) → apart.ends t ≡ true
 
   -- and those of each type may start of which neither the start nor the end is a use: where an exception comes out of the start, what has begun ends (7.6).
   abbrev pub StartsSpared : Apart → Type 0
-  StartsSpared apart = (t : ℕ) → Spares p u (λ d. creation_does (does_by p d) (record_at p.types t)) → apart.starts t ≡ true
+  StartsSpared apart = (t : ℕ) → Spares p shuns (λ d. creation_does (does_by p d) (record_at p.types t)) → apart.starts t ≡ true
 
   -- and records of each inert type may be assigned to as wholes.
   abbrev pub AssignsInert : Apart → Type 0
@@ -175,20 +175,20 @@ module _ (p : ProgramForm) (u : ℕ) where
       (variables_fit : list_all (variable_fits p.types) variables ≡ true) (texts exceptions : List (List ℕ)) (callable : List Profile) where
     -- What a value names may be freed, where its end is no use.
     kind_ended :
-        (kind : Option VariableKind) → KindFits p.types kind → Spares p u (λ d. parts_do (does_by p d) Finalize (designated_by p.types (value_access kind)))
+        (kind : Option VariableKind) → KindFits p.types kind → Spares p shuns (λ d. parts_do (does_by p d) Finalize (designated_by p.types (value_access kind)))
         → may_end apart kind ≡ true
     kind_ended None fits spares = refl
     kind_ended (Some variable.Integer) fits spares = refl
     kind_ended (Some variable.Boolean) fits spares = refl
     kind_ended (Some (variable.Access access)) fits spares =
         ended access.0
-        (subst (λ (o : Option ℕ). Spares p u (λ d. parts_do (does_by p d) Finalize o)) (sym (access_at p.types access.0 fits)) spares)
+        (subst (λ (o : Option ℕ). Spares p shuns (λ d. parts_do (does_by p d) Finalize o)) (sym (access_at p.types access.0 fits)) spares)
     kind_ended (Some (variable.Record object)) fits spares = refl
 
     -- What is assigned has the shape: what is allocated has no controlled parts, or is initialized by default, and that is no use (5.2, 4.8, 7.6).
     right_shaped :
         (kind : Option VariableKind) (right : RightForm) → KindFits p.types kind → right_fits p.types variables kind right ≡ true
-        → allocates_frugally (thrift_of p) right ≡ true → Spares p u (λ d. right_does p.types variables (does_by p d) d right)
+        → allocates_frugally (thrift_of p) right ≡ true → Spares p shuns (λ d. right_does p.types variables (does_by p d) d right)
         → right_shuns p.types (λ t. false) apart variables right ≡ true
     right_shaped kind nothing known fits is spares = refl
     right_shaped kind (value_of path) known fits is spares = path_shaped p.types apart variables path
@@ -199,7 +199,7 @@ module _ (p : ProgramForm) (u : ℕ) where
         let same = access_at p.types access (default_access p.types types_fit variables variables_fit kind access known fits) in
         let created = second allocation_does (λ (d : Deed). creation_does (does_by p d) (designated_type p.types access)) spares in
         or_right (has_bare_objects p.types access) (apart.starts access)
-        (started access (subst (λ (o : Option ℕ). Spares p u (λ d. creation_does (does_by p d) o)) (sym same) created))
+        (started access (subst (λ (o : Option ℕ). Spares p shuns (λ d. creation_does (does_by p d) o)) (sym same) created))
     right_shaped kind (computes e) known fits is spares = expression_shaped p.types apart variables e
 
     -- Records of a type that is known to be inert may be assigned to.
@@ -210,7 +210,7 @@ module _ (p : ProgramForm) (u : ℕ) where
     -- A declaration has it (3.3.1): that of a variable,
     declaration_shaped :
         (c : DeclarationForm) → initial_fits p.types variables c ≡ true → is_frugal_declaration (thrift_of p) c ≡ true
-        → Spares p u (λ d. declaration_does p.types variables (does_by p d) d c) → Spares p u (λ d. ending_does p.types (does_by p d) c)
+        → Spares p shuns (λ d. declaration_does p.types variables (does_by p d) d c) → Spares p shuns (λ d. ending_does p.types (does_by p d) c)
         → declaration_shuns p.types (λ t. false) apart variables c ≡ true
     declaration_shaped (creates_pool pool) fits is spares ends = absurd (cc is)
     declaration_shaped (collects access) fits is spares ends = absurd (cc is)
@@ -227,7 +227,7 @@ module _ (p : ProgramForm) (u : ℕ) where
         left_holds (is_record_object object kind) (record_initial_fits p.types variables x (object_named p.types (Some object)) None) fits in
         let held = variable_fits_kind p.types types_fit variables variables_fit x in
         let same = object_at p.types object (object_type p.types types_fit variables variables_fit kind object held known) in
-        let created = subst (λ (o : Option ℕ). Spares p u (λ d. creation_does (does_by p d) o)) (sym same) spares in
+        let created = subst (λ (o : Option ℕ). Spares p shuns (λ d. creation_does (does_by p d) o)) (sym same) spares in
         let begun = λ (d : Deed). parts_do (does_by p d) Initialize (record_at p.types object) in
         let undone = λ (d : Deed). parts_do (does_by p d) Finalize (record_at p.types object) in
         and_from (apart.starts object) (apart.ends object) (started object created) (ended object (second begun undone created))
@@ -243,7 +243,7 @@ module _ (p : ProgramForm) (u : ℕ) where
         left_holds (is_record_object object kind) (record_initial_fits p.types variables x (object_named p.types (Some object)) (Some items)) fits in
         let held = variable_fits_kind p.types types_fit variables variables_fit x in
         let same = object_at p.types object (object_type p.types types_fit variables variables_fit kind object held known) in
-        let left = subst (λ (o : Option ℕ). Spares p u (λ d. parts_do (does_by p d) Finalize o)) (sym same) ends in
+        let left = subst (λ (o : Option ℕ). Spares p shuns (λ d. parts_do (does_by p d) Finalize o)) (sym same) ends in
         and_from (may_fill p.types apart object) (list_all test items)
         (elim (or_cases (is_bare_initial p.types object items) (is_inert_initial (thrift_of p) object) may) [
           | inl bare_so ↦ or_left bare (apart.ends object && named) (and_parts bare (list_all (is_bare_item p.types) items) bare_so).0
@@ -255,7 +255,7 @@ module _ (p : ProgramForm) (u : ℕ) where
     -- So have all declarations of such a body.
     declarations_shaped :
         (cs : List DeclarationForm) → list_all (initial_fits p.types variables) cs ≡ true → are_frugal_declarations (thrift_of p) cs ≡ true
-        → Spares p u (λ d. declarations_do p.types variables (does_by p d) d cs) → Spares p u (λ d. leaving_does p.types (does_by p d) cs)
+        → Spares p shuns (λ d. declarations_do p.types variables (does_by p d) d cs) → Spares p shuns (λ d. leaving_does p.types (does_by p d) cs)
         → declarations_shun p.types (λ t. false) apart variables cs ≡ true
     declarations_shaped [] fits is spares ends = refl
     declarations_shaped (c ∷ cs) fits is spares ends =
@@ -284,12 +284,12 @@ module _ (p : ProgramForm) (u : ℕ) where
     -- where its statements and its handlers have it.
     master_shaped :
         (ds : List DeclarationForm) (fs : StmtsForm) (hs : HandlersForm) → list_all (initial_fits p.types variables) ds ≡ true
-        → (are_frugal (thrift_of p) fs ≡ true → Spares p u (λ d. stmts_do p.types variables (does_by p d) d fs)
+        → (are_frugal (thrift_of p) fs ≡ true → Spares p shuns (λ d. stmts_do p.types variables (does_by p d) d fs)
         → statements_shun p.types (λ t. false) apart variables fs ≡ true)
-        → (are_frugal_handlers (thrift_of p) hs ≡ true → Spares p u (λ d. handlers_do p.types variables (does_by p d) d hs)
+        → (are_frugal_handlers (thrift_of p) hs ≡ true → Spares p shuns (λ d. handlers_do p.types variables (does_by p d) d hs)
         → handlers_shun p.types (λ t. false) apart variables hs ≡ true)
         → (are_frugal_declarations (thrift_of p) ds && are_frugal (thrift_of p) fs && are_frugal_handlers (thrift_of p) hs) ≡ true
-        → Spares p u (master_does ds fs hs) → master_shuns ds fs hs ≡ true
+        → Spares p shuns (master_does ds fs hs) → master_shuns ds fs hs ≡ true
     master_shaped ds fs hs fit within behind frugal spares =
         let begun = are_frugal_declarations (thrift_of p) ds in
         let parts = and_parts (begun && are_frugal (thrift_of p) fs) (are_frugal_handlers (thrift_of p) hs) frugal in
@@ -311,7 +311,7 @@ module _ (p : ProgramForm) (u : ℕ) where
       -- A frugal statement has the shape, where what it does is no use,
       statement_shaped :
           (inside : Bool) (f : StmtForm) → statement_fits p.types variables texts exceptions callable inside f ≡ true → is_frugal_stmt (thrift_of p) f ≡ true
-          → Spares p u (λ d. stmt_does p.types variables (does_by p d) d f) → statement_shuns p.types (λ t. false) apart variables f ≡ true
+          → Spares p shuns (λ d. stmt_does p.types variables (does_by p d) d f) → statement_shuns p.types (λ t. false) apart variables f ≡ true
       statement_shaped inside skips fits frugal spares = refl
       statement_shaped inside (assigns target right) fits frugal spares =
           let kind = path_kind p.types variables target in
@@ -395,7 +395,7 @@ module _ (p : ProgramForm) (u : ℕ) where
       -- and so have statements,
       statements_shaped :
           (inside : Bool) (fs : StmtsForm) → stmts_fit p.types variables texts exceptions callable inside fs ≡ true → are_frugal (thrift_of p) fs ≡ true
-          → Spares p u (λ d. stmts_do p.types variables (does_by p d) d fs) → statements_shun p.types (λ t. false) apart variables fs ≡ true
+          → Spares p shuns (λ d. stmts_do p.types variables (does_by p d) d fs) → statements_shun p.types (λ t. false) apart variables fs ≡ true
       statements_shaped inside no_stmts fits frugal spares = refl
       statements_shaped inside (a_stmt f fs) fits frugal spares =
           let both = and_parts (is_frugal_stmt (thrift_of p) f) (are_frugal (thrift_of p) fs) frugal in
@@ -409,7 +409,7 @@ module _ (p : ProgramForm) (u : ℕ) where
       -- branches (5.3)
       branches_shaped :
           (inside : Bool) (branches : BranchesForm) → branches_fit p.types variables texts exceptions callable inside branches ≡ true
-          → are_frugal_branches (thrift_of p) branches ≡ true → Spares p u (λ d. branches_do p.types variables (does_by p d) d branches)
+          → are_frugal_branches (thrift_of p) branches ≡ true → Spares p shuns (λ d. branches_do p.types variables (does_by p d) d branches)
           → branches_shun p.types (λ t. false) apart variables branches ≡ true
       branches_shaped inside (otherwise fs) fits frugal spares = statements_shaped inside fs fits frugal spares
       branches_shaped inside (a_branch e fs branches) fits frugal spares =
@@ -430,7 +430,7 @@ module _ (p : ProgramForm) (u : ℕ) where
       -- and handlers (11.2).
       handlers_shaped :
           (inside : Bool) (hs : HandlersForm) → handlers_fit p.types variables texts exceptions callable inside hs ≡ true
-          → are_frugal_handlers (thrift_of p) hs ≡ true → Spares p u (λ d. handlers_do p.types variables (does_by p d) d hs)
+          → are_frugal_handlers (thrift_of p) hs ≡ true → Spares p shuns (λ d. handlers_do p.types variables (does_by p d) d hs)
           → handlers_shun p.types (λ t. false) apart variables hs ≡ true
       handlers_shaped inside no_handlers fits frugal spares = refl
       handlers_shaped inside (a_handler choices fs hs) fits frugal spares =
@@ -447,7 +447,7 @@ module _ (p : ProgramForm) (u : ℕ) where
   -- So has such a body, as the program that it sees fits.
   pub body_shaped :
       (apart : Apart) → CallsFrugal apart → EndsSpared apart → StartsSpared apart → AssignsInert apart → (number : ℕ) (b : BodyForm) → SeenFits (seen_by number b p)
-      → is_frugal_body (thrift_of p) b ≡ true → Spares p u (λ d. body_does p.types (does_by p d) d b) → body_shuns p.types (λ t. false) apart b ≡ true
+      → is_frugal_body (thrift_of p) b ≡ true → Spares p shuns (λ d. body_does p.types (does_by p d) d b) → body_shuns p.types (λ t. false) apart b ≡ true
   body_shaped apart marked ended started quietly number b fits =
       let callable = callable_in (seen_by number b p) in
       master_shaped apart marked ended started quietly fits.types_fit b.variables fits.variables_fit p.texts p.exceptions callable b.declarations b.statements

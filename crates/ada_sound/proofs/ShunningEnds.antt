@@ -1,10 +1,10 @@
--- The body of a Finalize shuns an access type (3.10) that the end of an object does not reach, in which such a part lies (7.6, 7.6.1): where the body is
--- frugal, it follows and frees no value of the type (4.1, 13.11.2), and neither do what it calls and the operations of what it frees, allocates and declares.
+-- The body of a Finalize shuns access types (3.10) that the end of an object does not reach, in which such a part lies (7.6, 7.6.1): where the body is
+-- frugal, it follows and frees no value of these types (4.1, 13.11.2), and neither do what it calls and the operations of what it frees, allocates and declares.
 
-use Rattle.std.proofs.Common.{◌≡◌, ℕ, Bool, true, false, not, ◌==◌, ◌&&◌, ◌||◌, List, [], ◌∷◌, length, Option, Some, None, refl, sym, ap, ◌∙◌, subst, arith, inl, inr}
+use Rattle.std.proofs.Common.{◌≡◌, ℕ, zero, suc, ◌<◌, Bool, true, false, not, ◌==◌, ◌&&◌, ◌||◌, List, [], ◌∷◌, length, Option, Some, None, refl, sym, ap, ◌∙◌, subst, arith, inl, inr}
 use Rattle.std.specs.Prelude.{nat_lt}
 use Rattle.std.specs.List.{slice_get, slice_index_or}
-use Rattle.std.proofs.lemmas.Bool.{and_from, and_parts, or_parts, cases_Bool, eqb-true, eq-eqb, ltb-true, not-true, false_from_ne_true}
+use Rattle.std.proofs.lemmas.Bool.{and_from, and_parts, or_parts, eqb-true, eqb-false, lt-ltb, ltb-true, not-true, false_from_ne_true}
 use Rattle.ada_parts.specs.declared.tasks.Direction.{Direction}
 use Rattle.ada_parts.specs.declared.tasks.Direction.TheVariants.{PartsFirst, WholeFirst}
 use Rattle.ada_parts.specs.Shape.{Shape}
@@ -52,10 +52,36 @@ abbrev is_frugal_one : ProgramForm → Option BodyForm → Bool
 is_frugal_one p None = true
 is_frugal_one p (Some b) = is_frugal_body (thrift_of p) b
 
--- A procedure is so, and it frees and follows no value of an access type.
-abbrev is_shunning : ProgramForm → (access procedure : ℕ) → Bool
-is_shunning p u n =
-    is_frugal_one p (slice_get p.bodies n) && not (does_by p (freeing u) (calling n)) && not (does_by p (following u) (calling n))
+-- A test fails for each number below this one.
+abbrev none_below : ℕ → (ℕ → Bool) → Bool
+none_below zero test = true
+none_below (suc n) test = not (test n) && none_below n test
+
+-- So it is, where it fails for each of them,
+none_below_from : (n : ℕ) (test : ℕ → Bool) → ((u : ℕ) → u < n → test u ≡ false) → none_below n test ≡ true
+none_below_from zero test none = refl
+none_below_from (suc n) test none =
+    and_from (not (test n)) (none_below n test) (ap not (none n (omega arith))) (none_below_from n test (λ u less. none u (omega (arith, less))))
+
+-- and then it fails for each of them.
+none_below_at : (n : ℕ) (test : ℕ → Bool) → none_below n test ≡ true → (u : ℕ) → u < n → test u ≡ false
+none_below_at zero test none u less = absurd (omega (arith, less))
+none_below_at (suc n) test none u less =
+    by (u == n) refl (none_below_at n test (and_parts (not (test n)) (none_below n test) none).1 u)
+  where
+    by : (same : Bool) → (u == n) ≡ same → (u < n → test u ≡ false) → test u ≡ false
+    by true is later = let one = eqb-true u n is in rw one (not-true (test n) (and_parts (not (test n)) (none_below n test) none).0)
+    by false is later = let other = eqb-false u n is in later (omega (arith, less, other))
+
+-- What is done is done to none of these types of a program.
+abbrev none_of : ProgramForm → (shuns : ℕ → Bool) → (done : ℕ → Bool) → Bool
+none_of p shuns done = none_below (length p.types) (λ u. shuns u && done u)
+
+-- A procedure is so, and it frees and follows no value of these types.
+abbrev is_shunning : ProgramForm → (shuns : ℕ → Bool) → (procedure : ℕ) → Bool
+is_shunning p shuns n =
+    is_frugal_one p (slice_get p.bodies n) && none_of p shuns (λ u. does_by p (freeing u) (calling n))
+    && none_of p shuns (λ u. does_by p (following u) (calling n))
 
 -- The start of an object frees or follows a value of an access type: that of the record that is named by values of a type, or known by it, or the end of what
 -- has begun of that (7.6, 7.6.1).
@@ -64,11 +90,11 @@ start_reaches p t u =
     creation_does (does_by p (freeing u)) (record_at p.types t) || creation_does (does_by p (following u)) (record_at p.types t)
 
 -- These procedures; the types of which the end of an object does neither; those of which the start of an object does neither; and the inert record types.
-abbrev apart_from : Program → (access : ℕ) → Apart
-apart_from program u = record {
-  calls = is_shunning (program_form program) u;
-  ends = λ t. not ((implicit_of (program_form program)).end_reaches t u);
-  starts = λ t. not (start_reaches (program_form program) t u);
+abbrev apart_from : Program → (shuns : ℕ → Bool) → Apart
+apart_from program shuns = record {
+  calls = is_shunning (program_form program) shuns;
+  ends = λ t. none_of (program_form program) shuns (λ u. (implicit_of (program_form program)).end_reaches t u);
+  starts = λ t. none_of (program_form program) shuns (λ u. start_reaches (program_form program) t u);
   assigns = λ t. is_known_calm (inert_types (program_form program).types) (finalization_of (program_form program).types t);
   definitions = program.types.items;
 }
@@ -111,42 +137,54 @@ module _ (program : Program) (direction : Direction) (access : ℕ) where
 begun_lies : (program : Program) (access of part : ℕ) → IsBegunIn program.types.items access of part → IsOperable (program_form program).types access of part
 begun_lies program access of part begun = (left_lies program PartsFirst access begun.1).0
 
--- Of some type, or of none.
-module _ (p : ProgramForm) (u : ℕ) where
-  -- A callee does nothing that is no deed of the program.
-  done_none : (d : Deed) (c : Callee) → (is_deed_of p d ≡ true → does_by p d c ≡ false) → does_by p d c ≡ false
-  done_none d c none = elim (cases_Bool (is_deed_of p d)) [
-    | inl is ↦ none is
-    | inr is ↦ ap (λ (b : Bool). b && does_within p d (callee_count p) c) is
-  ]
+-- Of some types, or of none.
+module _ (p : ProgramForm) (shuns : ℕ → Bool) where
+  -- What is done to none of them,
+  none_from : (done : ℕ → Bool) → ((u : ℕ) → shuns u ≡ true → nat_lt u (length p.types) ≡ true → done u ≡ false) → none_of p shuns done ≡ true
+  none_from done none = none_below_from (length p.types) (λ u. shuns u && done u) (λ u less. by u (shuns u) refl (lt-ltb u (length p.types) less))
+    where
+      by : (u : ℕ) (shunned : Bool) → shuns u ≡ shunned → nat_lt u (length p.types) ≡ true → (shuns u && done u) ≡ false
+      by u true is there = rw is (none u is there)
+      by u false is there = rw is refl
 
-  -- Where no use of the type is among what one does, it neither frees nor follows a value of it,
-  callee_spares : (c : Callee) → Spares p u (λ d. does_by p d c) → (does_by p (freeing u) c ≡ false) × (does_by p (following u) c ≡ false)
-  callee_spares c spares =
-      let is_one = λ (there : nat_lt u (length p.types) ≡ true). and_from (u == u) (nat_lt u (length p.types)) (eq-eqb u u refl) there in
-      (done_none (freeing u) c (λ there. spares (freeing u) (is_one there)), done_none (following u) c (λ there. spares (following u) (is_one there)))
+  -- is done to each of them not.
+  none_at : (done : ℕ → Bool) → none_of p shuns done ≡ true → (u : ℕ) → shuns u ≡ true → nat_lt u (length p.types) ≡ true → done u ≡ false
+  none_at done none u is there =
+      let not_both : (shuns u && done u) ≡ false = none_below_at (length p.types) (λ v. shuns v && done v) none u (ltb-true u (length p.types) there) in
+      rw is at not_both
+
+  -- Where no use of the types is among what one does, it neither frees nor follows a value of one,
+  callee_spares :
+      (c : Callee) → Spares p shuns (λ d. does_by p d c) → (u : ℕ) → shuns u ≡ true → nat_lt u (length p.types) ≡ true
+      → (does_by p (freeing u) c ≡ false) × (does_by p (following u) c ≡ false)
+  callee_spares c spares u is there =
+      let is_one = and_from (shuns u) (nat_lt u (length p.types)) is there in (spares (freeing u) is_one, spares (following u) is_one)
 
   -- and neither does an operation of a record, where there is one.
   parts_spare :
-      (operation : Operation) (o : Option ℕ) → Spares p u (λ d. parts_do (does_by p d) operation o)
-      → (parts_do (does_by p (freeing u)) operation o ≡ false) × (parts_do (does_by p (following u)) operation o ≡ false)
-  parts_spare operation None spares = (refl, refl)
-  parts_spare operation (Some t) spares = callee_spares (callee.Parts operation (record { 0 = t })) spares
+      (operation : Operation) (o : Option ℕ) → Spares p shuns (λ d. parts_do (does_by p d) operation o) → (u : ℕ) → shuns u ≡ true
+      → nat_lt u (length p.types) ≡ true → (parts_do (does_by p (freeing u)) operation o ≡ false) × (parts_do (does_by p (following u)) operation o ≡ false)
+  parts_spare operation None spares u is there = (refl, refl)
+  parts_spare operation (Some t) spares u is there = callee_spares (callee.Parts operation (record { 0 = t })) spares u is there
 
-  -- So where the end of an object is no use of the type, it does not reach it,
-  end_spares : (t : ℕ) → Spares p u (λ d. parts_do (does_by p d) Finalize (record_at p.types t)) → (implicit_of p).end_reaches t u ≡ false
+  -- So where the end of an object is no use of the types, it reaches none of them,
+  end_spares :
+      (t : ℕ) → Spares p shuns (λ d. parts_do (does_by p d) Finalize (record_at p.types t)) → none_of p shuns (λ u. (implicit_of p).end_reaches t u) ≡ true
   end_spares t spares =
-      let ended = parts_spare Finalize (record_at p.types t) spares in
-      rw (ended.0, ended.1) refl
+      none_from (λ u. (implicit_of p).end_reaches t u) (λ u is there.
+      let ended = parts_spare Finalize (record_at p.types t) spares u is there in
+      rw (ended.0, ended.1) refl)
 
   -- and so it is with its start.
-  start_spares : (t : ℕ) → Spares p u (λ d. creation_does (does_by p d) (record_at p.types t)) → start_reaches p t u ≡ false
+  start_spares :
+      (t : ℕ) → Spares p shuns (λ d. creation_does (does_by p d) (record_at p.types t)) → none_of p shuns (λ u. start_reaches p t u) ≡ true
   start_spares t spares =
       let one = λ (d : Deed). parts_do (does_by p d) Initialize (record_at p.types t) in
       let other = λ (d : Deed). parts_do (does_by p d) Finalize (record_at p.types t) in
-      let begun = parts_spare Initialize (record_at p.types t) (first p u one other spares) in
-      let ended = parts_spare Finalize (record_at p.types t) (second p u one other spares) in
-      rw (begun.0, begun.1, ended.0, ended.1) refl
+      none_from (λ u. start_reaches p t u) (λ u is there.
+      let begun = parts_spare Initialize (record_at p.types t) (first p shuns one other spares) u is there in
+      let ended = parts_spare Finalize (record_at p.types t) (second p shuns one other spares) u is there in
+      rw (begun.0, begun.1, ended.0, ended.1) refl)
 
   -- A procedure that is told to be frugal has a frugal body, if it has one.
   told_frugal : (n : ℕ) → slice_index_or (frugal_procedures p) n false ≡ true → is_frugal_one p (slice_get p.bodies n) ≡ true
@@ -158,38 +196,41 @@ module _ (p : ProgramForm) (u : ℕ) where
 
   -- A frugal procedure that does neither is one of these,
   shunning_from :
-      (n : ℕ) → is_frugal_one p (slice_get p.bodies n) ≡ true → does_by p (freeing u) (calling n) ≡ false → does_by p (following u) (calling n) ≡ false
-      → is_shunning p u n ≡ true
-  shunning_from n is frees follows =
+      (n : ℕ) → is_frugal_one p (slice_get p.bodies n) ≡ true
+      → ((u : ℕ) → shuns u ≡ true → nat_lt u (length p.types) ≡ true → (does_by p (freeing u) (calling n) ≡ false) × (does_by p (following u) (calling n) ≡ false))
+      → is_shunning p shuns n ≡ true
+  shunning_from n is none =
       let frugal = is_frugal_one p (slice_get p.bodies n) in
-      let free = not (does_by p (freeing u) (calling n)) in
-      let follow = not (does_by p (following u) (calling n)) in
-      and_from (frugal && free) follow (and_from frugal free is (ap not frees)) (ap not follows)
+      let free = none_of p shuns (λ u. does_by p (freeing u) (calling n)) in
+      let follow = none_of p shuns (λ u. does_by p (following u) (calling n)) in
+      and_from (frugal && free) follow (and_from frugal free is (none_from (λ u. does_by p (freeing u) (calling n)) (λ u shunned there. (none u shunned there).0)))
+      (none_from (λ u. does_by p (following u) (calling n)) (λ u shunned there. (none u shunned there).1))
 
   -- and so each of them is.
   shunning_parts :
-      (n : ℕ) → is_shunning p u n ≡ true
-      → (is_frugal_one p (slice_get p.bodies n) ≡ true) × (does_by p (freeing u) (calling n) ≡ false) × (does_by p (following u) (calling n) ≡ false)
+      (n : ℕ) → is_shunning p shuns n ≡ true
+      → (is_frugal_one p (slice_get p.bodies n) ≡ true) × (none_of p shuns (λ u. does_by p (freeing u) (calling n)) ≡ true)
+      × (none_of p shuns (λ u. does_by p (following u) (calling n)) ≡ true)
   shunning_parts n is =
       let frugal = is_frugal_one p (slice_get p.bodies n) in
-      let frees = does_by p (freeing u) (calling n) in
-      let follows = does_by p (following u) (calling n) in
-      let both = and_parts (frugal && not frees) (not follows) is in
-      let two = and_parts frugal (not frees) both.0 in
-      (two.0, not-true frees two.1, not-true follows both.1)
+      let free = none_of p shuns (λ u. does_by p (freeing u) (calling n)) in
+      let follow = none_of p shuns (λ u. does_by p (following u) (calling n)) in
+      let both = and_parts (frugal && free) follow is in
+      let two = and_parts frugal free both.0 in
+      (two.0, two.1, both.1)
 
   -- A use is a deed of the program.
-  use_of : (d : Deed) → is_use p u d ≡ true → is_deed_of p d ≡ true
+  use_of : (d : Deed) → is_use p shuns d ≡ true → is_deed_of p d ≡ true
   use_of (deed.Raises e) is = absurd (cc is)
-  use_of (deed.Frees t) is = (and_parts (u == t.0) (nat_lt t.0 (length p.types)) is).1
-  use_of (deed.Follows t) is = (and_parts (u == t.0) (nat_lt t.0 (length p.types)) is).1
+  use_of (deed.Frees t) is = (and_parts (shuns t.0) (nat_lt t.0 (length p.types)) is).1
+  use_of (deed.Follows t) is = (and_parts (shuns t.0) (nat_lt t.0 (length p.types)) is).1
   use_of deed.Allocates is = absurd (cc is)
   use_of deed.Calls is = absurd (cc is)
 
   -- What the body of a procedure does, the procedure does: where that is no use, what its body does is none.
   body_spares :
-      (n : ℕ) (b : BodyForm) → slice_get p.bodies n ≡ Some b → ((d : Deed) → is_use p u d ≡ true → ¬ Does p d (calling n))
-      → Spares p u (λ d. body_does p.types (does_by p d) d b)
+      (n : ℕ) (b : BodyForm) → slice_get p.bodies n ≡ Some b → ((d : Deed) → is_use p shuns d ≡ true → ¬ Does p d (calling n))
+      → Spares p shuns (λ d. body_does p.types (does_by p d) d b)
   body_spares n b there none d is =
       false_from_ne_true (body_does p.types (does_by p d) d b)
       (λ done. none d is
@@ -239,93 +280,98 @@ module _ (program : Program) (well : IsWellFormed (program_form program)) (uses 
       let all = done_lying program well d operation access of part number operable overrides own in
       cc (none, all))
 
-  -- Of some type, or of none.
-  module _ (u : ℕ) where
-    -- What is apart from it.
+  -- Of some types, or of none.
+  module _ (shuns : ℕ → Bool) where
+    -- What is apart from them.
     abbrev apart : Apart
-    apart = apart_from program u
+    apart = apart_from program shuns
 
-    -- An operation of a part of an object is one of these procedures, where it is frugal, and that of the object does not reach the type.
+    -- An operation of a part of an object is one of these procedures, where it is frugal, and that of the object does not reach the types.
     operation_shuns :
         (operation : Operation) (access of part number : ℕ) → IsOperable p.types access of part
         → procedure_number (overriding operation (operations_of program.types.items of)) ≡ Some number
-        → is_frugal_one p (slice_get p.bodies number) ≡ true → parts_do (does_by p (freeing u)) operation (record_at p.types access) ≡ false
-        → parts_do (does_by p (following u)) operation (record_at p.types access) ≡ false → apart.calls number ≡ true
-    operation_shuns operation access of part number operable overrides frugal frees follows =
-        shunning_from p u number frugal (operation_spares operation access of part number operable overrides (freeing u) frees)
-        (operation_spares operation access of part number operable overrides (following u) follows)
+        → is_frugal_one p (slice_get p.bodies number) ≡ true
+        → ((u : ℕ) → shuns u ≡ true → nat_lt u (length p.types) ≡ true → (parts_do (does_by p (freeing u)) operation (record_at p.types access) ≡ false)
+        × (parts_do (does_by p (following u)) operation (record_at p.types access) ≡ false)) → apart.calls number ≡ true
+    operation_shuns operation access of part number operable overrides frugal none =
+        shunning_from p shuns number frugal (λ u is there. (
+          operation_spares operation access of part number operable overrides (freeing u) (none u is there).0,
+          operation_spares operation access of part number operable overrides (following u) (none u is there).1,
+        ))
 
-    -- So is a Finalize, where the end of the object does not reach the type,
+    -- So is a Finalize, where the end of the object does not reach the types,
     end_shuns :
         (access of part number : ℕ) → IsOperable p.types access of part → procedure_number (operations_of program.types.items of).finalize ≡ Some number
-        → (implicit_of p).end_reaches access u ≡ false → apart.calls number ≡ true
+        → none_of p shuns (λ u. (implicit_of p).end_reaches access u) ≡ true → apart.calls number ≡ true
     end_shuns access of part number operable overrides reaches =
         let ended = λ (d : Deed). parts_do (does_by p d) Finalize (record_at p.types access) in
-        let none = or_parts (ended (freeing u)) (ended (following u)) reaches in
-        operation_shuns Finalize access of part number operable overrides (finalize_frugal of number overrides) none.0 none.1
+        operation_shuns Finalize access of part number operable overrides (finalize_frugal of number overrides) (λ u is there.
+        or_parts (ended (freeing u)) (ended (following u)) (none_at p shuns (λ v. (implicit_of p).end_reaches access v) reaches u is there))
 
     -- and where its start does not, so are an Initialize, and a Finalize of what has begun.
     start_shuns :
-        (access of part number : ℕ) → IsOperable p.types access of part → start_reaches p access u ≡ false
+        (access of part number : ℕ) → IsOperable p.types access of part → none_of p shuns (λ u. start_reaches p access u) ≡ true
         → (procedure_number (operations_of program.types.items of).initialize ≡ Some number → apart.calls number ≡ true)
         × (procedure_number (operations_of program.types.items of).finalize ≡ Some number → apart.calls number ≡ true)
     start_shuns access of part number operable reaches =
         let begun = λ (d : Deed). parts_do (does_by p d) Initialize (record_at p.types access) in
         let ended = λ (d : Deed). parts_do (does_by p d) Finalize (record_at p.types access) in
-        let none = or_parts (begun (freeing u) || ended (freeing u)) (begun (following u) || ended (following u)) reaches in
-        let frees = or_parts (begun (freeing u)) (ended (freeing u)) none.0 in
-        let follows = or_parts (begun (following u)) (ended (following u)) none.1 in (
-          λ overrides. operation_shuns Initialize access of part number operable overrides (initialize_frugal of number overrides) frees.0 follows.0,
-          λ overrides. operation_shuns Finalize access of part number operable overrides (finalize_frugal of number overrides) frees.1 follows.1,
+        let none = λ (u : ℕ) (is : shuns u ≡ true) (there : nat_lt u (length p.types) ≡ true).
+        or_parts (begun (freeing u) || ended (freeing u)) (begun (following u) || ended (following u)) (none_at p shuns (λ v. start_reaches p access v) reaches u is there) in
+        let frees = λ (u : ℕ) (is : shuns u ≡ true) (there : nat_lt u (length p.types) ≡ true). or_parts (begun (freeing u)) (ended (freeing u)) (none u is there).0 in
+        let follows = λ (u : ℕ) (is : shuns u ≡ true) (there : nat_lt u (length p.types) ≡ true). or_parts (begun (following u)) (ended (following u)) (none u is there).1 in (
+          λ overrides. operation_shuns Initialize access of part number operable overrides (initialize_frugal of number overrides)
+              (λ u is there. ((frees u is there).0, (follows u is there).0)),
+          λ overrides. operation_shuns Finalize access of part number operable overrides (finalize_frugal of number overrides)
+              (λ u is there. ((frees u is there).1, (follows u is there).1)),
         )
 
     -- So is each operation that the start or the end of an object calls which they may start or end.
     operations_apart : CallsApart program.types.items apart
     operations_apart = record {
       finalizes = λ access of part number tasks may left overrides.
-          end_shuns access of part number (left_lies program WholeFirst access left).0 overrides
-          (not-true ((implicit_of p).end_reaches access u) may);
+          end_shuns access of part number (left_lies program WholeFirst access left).0 overrides may;
       initializes = λ access of part number may begun overrides.
-          (start_shuns access of part number (begun_lies program access of part begun) (not-true (start_reaches p access u) may)).0 overrides;
+          (start_shuns access of part number (begun_lies program access of part begun) may).0 overrides;
       undoes = λ access of part number may begun overrides.
-          (start_shuns access of part number (begun_lies program access of part begun) (not-true (start_reaches p access u) may)).1 overrides;
+          (start_shuns access of part number (begun_lies program access of part begun) may).1 overrides;
       assigns_quietly = λ direction record_type of part tasks may left. inert_calls_nothing program well direction record_type of part tasks may left;
     }
 
-    -- They free and follow no value of the type,
-    unused : UseNone p (λ t. u == t) apart
+    -- They free and follow no value of the types,
+    unused : UseNone p shuns apart
     unused = record {
       follow_none = λ n t among shunned done.
-          let none = (shunning_parts p u n among).2 in
-          let own = (counts_are_enough p (following u) (calling n)).1 (subst (λ (v : ℕ). Does p (following v) (calling n)) (sym (eqb-true u t shunned)) done) in
+          let own = (counts_are_enough p (following t) (calling n)).1 done in
+          let there = (and_parts (nat_lt t (length p.types)) (does_within p (following t) (callee_count p) (calling n)) own).0 in
+          let none = none_at p shuns (λ u. does_by p (following u) (calling n)) (shunning_parts p shuns n among).2 t shunned there in
           cc (none, own);
       free_none = λ n t among shunned done.
-          let none = (shunning_parts p u n among).1 in
-          let own = (counts_are_enough p (freeing u) (calling n)).1 (subst (λ (v : ℕ). Does p (freeing v) (calling n)) (sym (eqb-true u t shunned)) done) in
+          let own = (counts_are_enough p (freeing t) (calling n)).1 done in
+          let there = (and_parts (nat_lt t (length p.types)) (does_within p (freeing t) (callee_count p) (calling n)) own).0 in
+          let none = none_at p shuns (λ u. does_by p (freeing u) (calling n)) (shunning_parts p shuns n among).1 t shunned there in
           cc (none, own);
     }
 
     -- and no use is among what they do.
-    uses_none : (n : ℕ) → apart.calls n ≡ true → (d : Deed) → is_use p u d ≡ true → ¬ Does p d (calling n)
+    uses_none : (n : ℕ) → apart.calls n ≡ true → (d : Deed) → is_use p shuns d ≡ true → ¬ Does p d (calling n)
     uses_none n among (deed.Raises e) is done = absurd (cc is)
-    uses_none n among (deed.Frees t) is done = unused.free_none n t.0 among (and_parts (u == t.0) (nat_lt t.0 (length p.types)) is).0 done
-    uses_none n among (deed.Follows t) is done = unused.follow_none n t.0 among (and_parts (u == t.0) (nat_lt t.0 (length p.types)) is).0 done
+    uses_none n among (deed.Frees t) is done = unused.free_none n t.0 among (and_parts (shuns t.0) (nat_lt t.0 (length p.types)) is).0 done
+    uses_none n among (deed.Follows t) is done = unused.follow_none n t.0 among (and_parts (shuns t.0) (nat_lt t.0 (length p.types)) is).0 done
     uses_none n among deed.Allocates is done = absurd (cc is)
     uses_none n among deed.Calls is done = absurd (cc is)
 
     -- Each frugal procedure of which a call is no use is among them,
-    calls_frugal : CallsFrugal p u apart
-    calls_frugal n told spares =
-        let none = callee_spares p u (calling n) spares in
-        shunning_from p u n (told_frugal p u n told) none.0 none.1
+    calls_frugal : CallsFrugal p shuns apart
+    calls_frugal n told spares = shunning_from p shuns n (told_frugal p shuns n told) (callee_spares p shuns (calling n) spares)
 
     -- so is each type of which the end of an object is no use,
-    ends_spared : EndsSpared p u apart
-    ends_spared t spares = ap not (end_spares p u t spares)
+    ends_spared : EndsSpared p shuns apart
+    ends_spared t spares = end_spares p shuns t spares
 
     -- and so is each type of which the start of an object is none.
-    starts_spared : StartsSpared p u apart
-    starts_spared t spares = ap not (start_spares p u t spares)
+    starts_spared : StartsSpared p shuns apart
+    starts_spared t spares = start_spares p shuns t spares
 
     -- So they have the shape.
     shaped : AreShaped p program.types.items apart
@@ -333,46 +379,41 @@ module _ (program : Program) (well : IsWellFormed (program_form program)) (uses 
       own = refl;
       bodies = λ n b among there.
           let fits : SeenFits (seen_by n b p) = subst (λ (own : ProgramForm). SeenFits own) (seen_as p n b there) (seen_fits p well (Some n)) in
-          let frugal = subst (λ (found : Option BodyForm). is_frugal_one p found ≡ true) there (shunning_parts p u n among).0 in
-          body_shaped p u apart calls_frugal ends_spared starts_spared (λ t inert. inert) n b fits frugal
-          (body_spares p u n b there (uses_none n among));
+          let frugal = subst (λ (found : Option BodyForm). is_frugal_one p found ≡ true) there (shunning_parts p shuns n among).0 in
+          body_shaped p shuns apart calls_frugal ends_spared starts_spared (λ t inert. inert) n b fits frugal
+          (body_spares p shuns n b there (uses_none n among));
       operations = operations_apart;
     }
 
-    -- All of them shun the type.
-    all_apart : AreApart p program.types.items (λ t. u == t) apart
-    all_apart = unused_apart p (λ t. u == t) apart unused program.types.items well shaped
+    -- All of them shun the types.
+    all_apart : AreApart p program.types.items shuns apart
+    all_apart = unused_apart p shuns apart unused program.types.items well shaped
 
   -- Such a body has the shape of bodies that shun types, whatever it uses, and so have all that it calls, and the operations of what it frees, allocates and
   -- declares.
   module _ (number : ℕ) (b : BodyForm) (there : slice_get p.bodies number ≡ Some b) (frugal : is_frugal_body (thrift_of p) b ≡ true) where
-    -- No type has the number behind the last one: so nothing is a use of it.
-    none_used : (d : Deed) → is_deed_of p d ≡ nat_lt (length p.types) (length p.types) → does_by p d (calling number) ≡ false
-    none_used d same =
-        let last = length p.types in
-        done_none p last d (calling number) (λ is. absurd (omega (arith, ltb-true last last (sym same ∙ is))))
-
     own_shaped : (apart : Apart) × AreApart p program.types.items (λ t. false) apart × (body_shuns p.types (λ t. false) apart b ≡ true)
     own_shaped =
-        let u = length p.types in
         let one = subst (λ (found : Option BodyForm). is_frugal_one p found ≡ true) (sym there) frugal in
-        let among = shunning_from p u number one (none_used (freeing u) refl) (none_used (following u) refl) in
-        (apart_from program u, shaped u, (shaped u).bodies number b among there)
+        let among = shunning_from p (λ t. false) number one (λ u is below. absurd (cc is)) in
+        (apart_from program (λ t. false), shaped (λ t. false), (shaped (λ t. false)).bodies number b among there)
 
--- The body of a Finalize of a part of an object, whose end does not reach an access type, shuns that type, and so do all that it calls and the operations of
+-- The body of a Finalize of a part of an object, whose end does not reach some access types, shuns those types, and so do all that it calls and the operations of
 -- what it frees, allocates and declares.
 pub finalize_shuns :
     (program : Program) → IsWellFormed (program_form program) → operations_may_be_called (program_form program) ≡ true
-    → (access of part number u : ℕ) (b : BodyForm) → IsOperable (program_form program).types access of part
+    → (access of part number : ℕ) (shuns : ℕ → Bool) (b : BodyForm) → IsOperable (program_form program).types access of part
     → procedure_number (operations_of program.types.items of).finalize ≡ Some number
-    → slice_get (body_forms program) number ≡ Some b → (implicit_of (program_form program)).end_reaches access u ≡ false
-    → (apart : Apart) × AreApart (program_form program) program.types.items (λ t. u == t) apart
-    × (body_shuns (program_form program).types (λ t. u == t) apart b ≡ true)
-finalize_shuns program well uses access of part number u b operable overrides there reaches =
-    let all = all_apart program well uses u in
-    (apart_from program u, all, all.bodies number b (end_shuns program well uses u access of part number operable overrides reaches) there)
+    → slice_get (body_forms program) number ≡ Some b → ((t : ℕ) → shuns t ≡ true → (implicit_of (program_form program)).end_reaches access t ≡ false)
+    → (apart : Apart) × AreApart (program_form program) program.types.items shuns apart
+    × (body_shuns (program_form program).types shuns apart b ≡ true)
+finalize_shuns program well uses access of part number shuns b operable overrides there reaches =
+    let p = program_form program in
+    let all = all_apart program well uses shuns in
+    let none = none_from p shuns (λ u. (implicit_of p).end_reaches access u) (λ u is within. reaches u is) in
+    (apart_from program shuns, all, all.bodies number b (end_shuns program well uses shuns access of part number operable overrides none) there)
 
--- The frugal body of a procedure has the shape of bodies that shun types, and so have all that it calls and the operations of what it frees, allocates and
+-- The frugal body of a procedure has the shape of bodies that shun types, and so have all that it calls, and the operations of what it frees, allocates and
 -- declares.
 pub body_is_shaped :
     (program : Program) → IsWellFormed (program_form program) → operations_may_be_called (program_form program) ≡ true → (number : ℕ) (b : BodyForm)

@@ -1,5 +1,5 @@
--- The first state of a program that is well formed, whose collections nest, that frees by the instances for what it frees, and none of an object's own type where
--- the object ends, and that obeys the rules keeps the invariant.
+-- The first state of a program that is well formed, whose collections nest, that frees by the instances for what it frees, and none of an object's own type, or of
+-- one whose collection is newer, where the object ends, and that obeys the rules keeps the invariant.
 
 use Rattle.std.proofs.Common.{◌≡◌, ℕ, zero, suc, true, false, List, [], ◌∷◌, refl, sym, subst, ◌⊎◌, inl}
 use Rattle.std.specs.Prelude.{ℤ, Option, Some, None}
@@ -18,7 +18,7 @@ use Rattle.ada_flow.specs.Tracking.{Tracks, no_tracks}
 use Rattle.ada_meaning.specs.Step.{blanks}
 use Rattle.ada_meaning.specs.Named.{State, named}
 use Rattle.ada_meaning.specs.Run.{here, first_state}
-use Rattle.ada_sound.specs.Always.{LetsNothingOut, SparesHolders, SparesOwn, reaches_holder}
+use Rattle.ada_sound.specs.Always.{LetsNothingOut, SparesHolders, SparesNewer, SparesOwn, reaches_holder}
 use Rattle.ada_idle.proofs.Idle.{IsIdle}
 use Rattle.ada_idle.proofs.Runs.{first_idle}
 use Rattle.ada_idle.proofs.Unadjusted.{AdjustsNone}
@@ -50,7 +50,7 @@ use Rattle.ada_sound.proofs.Operates.{Operates}
 use Rattle.ada_sound.proofs.Returns.{same_types}
 
 -- What every state of a run keeps: the invariant, where no operation runs, or the body of one runs that touches no storage, an Initialize or a Finalize that does, or
--- an Adjust that tracks components; or a collection goes for whose objects operations may be called that touch storage. Values are of their kinds, and collections nest. Where the text makes no object with controlled parts, none is treated, and
+-- an Adjust that tracks components; or collections go, up to one for whose objects operations may be called that touch storage. Values are of their kinds, and collections nest. Where the text makes no object with controlled parts, none is treated, and
 -- where it copies no record with some, nothing is adjusted.
 pub record Sound (program : Program) (s : State) : Type 0 where
   pub reached : IsReached program s
@@ -58,6 +58,7 @@ pub record Sound (program : Program) (s : State) : Type 0 where
   pub in_use : operations_are_in_use (program_form program) ≡ true
   pub frees_own : FreesItsOwn (program_form program)
   pub spares_own : SparesOwn program
+  pub spares_newer : SparesNewer program
   pub lets_nothing_out : LetsNothingOut (program_form program)
   pub spares_holders : SparesHolders program
   pub obeys : Obeys program
@@ -117,13 +118,14 @@ ready_first program input well obeys =
       },
     )
 
-pub sound_first : (program : Program) (input : List ℤ) → IsWellFormed (program_form program) → operations_are_in_use (program_form program) ≡ true → CollectionsNest (program_form program) → FreesItsOwn (program_form program) → SparesOwn program → LetsNothingOut (program_form program) → SparesHolders program → ObeysRules program → Sound program (first_state program input)
-sound_first program input well uses nest own spares lets_none holders obeys = let obeys_so : Obeys program = (tracks_safely (program_form program) well uses, obeys) in record {
+pub sound_first : (program : Program) (input : List ℤ) → IsWellFormed (program_form program) → operations_are_in_use (program_form program) ≡ true → CollectionsNest (program_form program) → FreesItsOwn (program_form program) → SparesOwn program → SparesNewer program → LetsNothingOut (program_form program) → SparesHolders program → ObeysRules program → Sound program (first_state program input)
+sound_first program input well uses nest own spares newer lets_none holders obeys = let obeys_so : Obeys program = (tracks_safely (program_form program) well uses, obeys) in record {
   reached = (input, [], here);
   well = well;
   in_use = uses;
   frees_own = own;
   spares_own = spares;
+  spares_newer = newer;
   lets_nothing_out = lets_none;
   spares_holders = holders;
   obeys = obeys_so;
@@ -132,7 +134,7 @@ sound_first program input well uses nest own spares lets_none holders obeys = le
     ready = ready_first program input well obeys_so;
     stands = record { body = tt; behind = refl; bodies = tt; standing = record { suspended = tt; waiting = tt; low = tt } };
     calm = tt;
-    settled = refl;
+    settled = tt;
   });
   idle = λ none. first_idle program none input;
   copies = λ none. first_adjusts_none program none input;

@@ -22,9 +22,33 @@ abbrev pub IsUnder : List Id → Id → Type 0
 IsUnder [] o = ⊥
 IsUnder (p ∷ ps) o = (p ≡ o) ⊎ IsUnder ps o
 
+-- An object is there, though its words are back: so it is in a state that stands for the real one, in which it has gone with its collection (7.6.1).
+pub record HasDeparted (heap : List Object) (o : Id) (x : Object) : Type 0 where
+  pub found : object_at heap o ≡ Some x
+  pub there : is_there x.stage ≡ true
+  pub back : x.out ≡ false
+
+-- Of what is there the words are out.
+abbrev pub AllOut : List Object → Type 0
+AllOut heap = (o : Id) (x : Object) → object_at heap o ≡ Some x → is_there x.stage ≡ true → x.out ≡ true
+
+-- So none has departed; and the words are out where none has.
+pub none_departed : {X : Type 0} (heap : List Object) → AllOut heap → (o : Id) (x : Object) → HasDeparted heap o x → X
+none_departed heap all o x departed =
+    let out = all o x departed.found departed.there in
+    let back = departed.back in
+    absurd (cc (out, back))
+
+pub all_out : (heap : List Object) → ((o : Id) (x : Object) → HasDeparted heap o x → ⊥) → AllOut heap
+all_out heap none o x found there = by x.out refl
+  where
+    by : (b : Bool) → x.out ≡ b → x.out ≡ true
+    by true out = out
+    by false back = absurd (none o x (record { found = found; there = there; back = back }))
+
 -- What is so of each object, where these are under way.
 pub record Sane (under : List Id) (items : List Item) (o : Id) (x : Object) : Type 0 where
-  pub back_gone : x.out ≡ false → x.stage ≡ Gone
+  pub back_unlisted : x.out ≡ false → x.listed ≡ false
   pub listed_exists : x.listed ≡ true → x.stage ≡ Existing
   pub there_exists : is_there x.stage ≡ true → x.stage ≡ Existing
   pub housed : x.out ≡ true → HasItem x.cell.home.item x.cell.access x.cell.home.pool items
@@ -40,7 +64,7 @@ stored_new {under} {heap} {masters} cell home s = record { counted = s.counted; 
   where
     go : (o : Id) (x : Object) → (slice_get heap o.0 ≡ Some x) ⊎ ((o.0 ≡ length heap) × (x ≡ new_object cell)) → Sane under (items_of masters) o x
     go o x (inl e) = s.sane o x e
-    go o x (inr e) = rw (e.1) (record { back_gone = λ h. absurd (cc h); listed_exists = λ h. refl; there_exists = λ h. refl; housed = λ h. home; out_listed = λ h. inl refl })
+    go o x (inr e) = rw (e.1) (record { back_unlisted = λ h. absurd (cc h); listed_exists = λ h. refl; there_exists = λ h. refl; housed = λ h. home; out_listed = λ h. inl refl })
 
 -- One object changes.
 pub stored_set : {under after : List Id} {heap : List Object} {masters : List Master} (o : Id) (y : Object) → Sane after (items_of masters) o y → ((p : Id) (z : Object) → p.0 ≢ o.0 → Sane under (items_of masters) p z → Sane after (items_of masters) p z) → Stored under heap masters → Stored after (slice_set heap o.0 y) masters
@@ -55,8 +79,8 @@ pub stored_part : {under : List Id} {heap : List Object} {masters : List Master}
 stored_part {under} {heap} {masters} o x is s =
     let h = s.sane o x is in
     stored_set o (parted x)
-    (record { back_gone = h.back_gone; listed_exists = λ e. absurd (cc e); there_exists = h.there_exists; housed = h.housed; out_listed = λ e. inr (inl refl) })
-    (λ p z ne g. record { back_gone = g.back_gone; listed_exists = g.listed_exists; there_exists = g.there_exists; housed = g.housed; out_listed = λ e. elim (g.out_listed e) [ inl l ↦ inl l | inr n ↦ inr (inr n) ] })
+    (record { back_unlisted = λ e. refl; listed_exists = λ e. absurd (cc e); there_exists = h.there_exists; housed = h.housed; out_listed = λ e. inr (inl refl) })
+    (λ p z ne g. record { back_unlisted = g.back_unlisted; listed_exists = g.listed_exists; there_exists = g.there_exists; housed = g.housed; out_listed = λ e. elim (g.out_listed e) [ inl l ↦ inl l | inr n ↦ inr (inr n) ] })
     s
 
 -- It ceases to exist.
@@ -64,7 +88,7 @@ pub stored_finish : {under : List Id} {heap : List Object} {masters : List Maste
 stored_finish {under} {heap} {masters} o x is s =
     let h = s.sane o x is in
     stored_set o (finished x)
-    (record { back_gone = λ e. refl; listed_exists = λ e. absurd (cc e); there_exists = λ e. absurd (cc e); housed = h.housed; out_listed = λ e. inr (inl refl) })
+    (record { back_unlisted = λ e. refl; listed_exists = λ e. absurd (cc e); there_exists = λ e. absurd (cc e); housed = h.housed; out_listed = λ e. inr (inl refl) })
     (λ p z ne g. g)
     s
 
@@ -73,10 +97,14 @@ pub stored_back : {under : List Id} {heap : List Object} {masters : List Master}
 stored_back {under} {heap} {masters} o x is gone s =
     let h = s.sane o x is in
     stored_set o (returned x)
-    (record { back_gone = λ e. gone; listed_exists = h.listed_exists; there_exists = h.there_exists; housed = λ e. absurd (cc e); out_listed = λ e. absurd (cc e) })
-    (λ p z ne g. record { back_gone = g.back_gone; listed_exists = g.listed_exists; there_exists = g.there_exists; housed = g.housed; out_listed = λ e. elim (g.out_listed e) [ inl l ↦ inl l | inr n ↦ inr (other p ne n) ] })
+    (record { back_unlisted = λ e. unlisted x.listed refl (h.listed_exists); listed_exists = h.listed_exists; there_exists = h.there_exists; housed = λ e. absurd (cc e); out_listed = λ e. absurd (cc e) })
+    (λ p z ne g. record { back_unlisted = g.back_unlisted; listed_exists = g.listed_exists; there_exists = g.there_exists; housed = g.housed; out_listed = λ e. elim (g.out_listed e) [ inl l ↦ inl l | inr n ↦ inr (other p ne n) ] })
     s
   where
+    unlisted : (b : Bool) → x.listed ≡ b → (x.listed ≡ true → x.stage ≡ Existing) → x.listed ≡ false
+    unlisted true is exists = let there = exists is in absurd (cc (gone, there))
+    unlisted false is exists = is
+
     other : (p : Id) → p.0 ≢ o.0 → IsUnder (o ∷ under) p → IsUnder under p
     other p ne (inl same) = absurd (ne (ap (λ (q : Id). q.0) (sym same)))
     other p ne (inr one) = one
@@ -86,7 +114,7 @@ pub stored_filled : {under : List Id} {heap : List Object} {masters : List Maste
 stored_filled {under} {heap} {masters} o x c v is s =
     let h = s.sane o x is in
     stored_set o (filled c v x)
-    (record { back_gone = h.back_gone; listed_exists = h.listed_exists; there_exists = h.there_exists; housed = h.housed; out_listed = h.out_listed })
+    (record { back_unlisted = h.back_unlisted; listed_exists = h.listed_exists; there_exists = h.there_exists; housed = h.housed; out_listed = h.out_listed })
     (λ p z ne g. g)
     s
 
@@ -95,7 +123,7 @@ pub stored_treated : {under : List Id} {heap : List Object} {masters : List Mast
 stored_treated {under} {heap} {masters} change part o x is s =
     let h = s.sane o x is in
     stored_set o (treated change part x)
-    (record { back_gone = h.back_gone; listed_exists = h.listed_exists; there_exists = h.there_exists; housed = h.housed; out_listed = h.out_listed })
+    (record { back_unlisted = h.back_unlisted; listed_exists = h.listed_exists; there_exists = h.there_exists; housed = h.housed; out_listed = h.out_listed })
     (λ p z ne g. g)
     s
 
@@ -103,16 +131,12 @@ stored_treated {under} {heap} {masters} change part o x is s =
 pub stored_owning : {under : List Id} {heap : List Object} {masters : List Master} (owned : Owned) → Stored under heap masters → Stored under heap (owning (record { number = height masters; owned = owned }) masters)
 stored_owning {under} {heap} {masters} owned s = record {
   counted = counted_owning owned masters s.counted;
-  sane = λ o x e. let h = s.sane o x e in record { back_gone = h.back_gone; listed_exists = h.listed_exists; there_exists = h.there_exists; housed = λ out. has_owning x.cell.home.item x.cell.access x.cell.home.pool (record { number = height masters; owned = owned }) masters (h.housed out); out_listed = h.out_listed };
+  sane = λ o x e. let h = s.sane o x e in record { back_unlisted = h.back_unlisted; listed_exists = h.listed_exists; there_exists = h.there_exists; housed = λ out. has_owning x.cell.home.item x.cell.access x.cell.home.pool (record { number = height masters; owned = owned }) masters (h.housed out); out_listed = h.out_listed };
 }
 
--- What is there is in its collection, where no object is under way.
-pub there_listed : {heap : List Object} {masters : List Master} (o : Id) (x : Object) → object_at heap o ≡ Some x → is_there x.stage ≡ true → Stored [] heap masters → x.listed ≡ true
-there_listed o x is there s = by x.out refl
-  where
-    by : (b : Bool) → x.out ≡ b → x.listed ≡ true
-    by true out = elim ((s.sane o x is).out_listed out) [ inl listed ↦ listed | inr under ↦ absurd under ]
-    by false back = let gone = (s.sane o x is).back_gone back in let nowhere : is_there Gone ≡ true = rw gone at there in absurd (cc nowhere)
+-- What is there is in its collection, where no object is under way, and its words are out.
+pub there_listed : {heap : List Object} {masters : List Master} (o : Id) (x : Object) → object_at heap o ≡ Some x → x.out ≡ true → Stored [] heap masters → x.listed ≡ true
+there_listed o x is out s = elim ((s.sane o x is).out_listed out) [ inl listed ↦ listed | inr under ↦ absurd under ]
 
 -- Members: each is in the collection of its home, and each that is in it is one.
 abbrev pub EachId : (Id → Type 0) → List Id → Type 0
@@ -190,23 +214,23 @@ pub none_is_left : (item : ℕ) (heap : List Object) (o : Id) (x : Object) → m
 none_is_left item heap o x none is listed home = none_from item 0 heap o.0 x none is (rw (listed, home) (eq-eqb item item refl))
 
 -- The newest item goes, where it has no member.
-pub stored_shorter : {under : List Id} {heap : List Object} (m : Master) (item : Item) (items : List Item) (ms : List Master) → ((o : Id) (x : Object) → IsUnder under o → object_at heap o ≡ Some x → x.cell.home.item ≡ item.number → ⊥) → ((o : Id) (x : Object) → object_at heap o ≡ Some x → x.listed ≡ true → Houses item.owned x.cell.access x.cell.home.pool → x.cell.home.item ≡ item.number → ⊥) → Stored under heap (record m { items = item ∷ items } ∷ ms) → Stored under heap (record m { items = items } ∷ ms)
+pub stored_shorter : {under : List Id} {heap : List Object} (m : Master) (item : Item) (items : List Item) (ms : List Master) → ((o : Id) (x : Object) → IsUnder under o → object_at heap o ≡ Some x → x.out ≡ true → x.cell.home.item ≡ item.number → ⊥) → ((o : Id) (x : Object) → object_at heap o ≡ Some x → x.listed ≡ true → Houses item.owned x.cell.access x.cell.home.pool → x.cell.home.item ≡ item.number → ⊥) → Stored under heap (record m { items = item ∷ items } ∷ ms) → Stored under heap (record m { items = items } ∷ ms)
 stored_shorter {under} {heap} m item items ms apart none s = record {
   counted = s.counted.1;
   sane = λ o x e. let h = s.sane o x e in record {
-    back_gone = h.back_gone;
+    back_unlisted = h.back_unlisted;
     listed_exists = h.listed_exists;
     there_exists = h.there_exists;
-    housed = λ out. rest o x e (h.out_listed out) (h.housed out);
+    housed = λ out. rest o x e out (h.out_listed out) (h.housed out);
     out_listed = h.out_listed;
   };
 }
   where
-    rest : (o : Id) (x : Object) → object_at heap o ≡ Some x → (x.listed ≡ true) ⊎ IsUnder under o → HasItem x.cell.home.item x.cell.access x.cell.home.pool (item ∷ (items ++ items_of ms)) → HasItem x.cell.home.item x.cell.access x.cell.home.pool (items ++ items_of ms)
-    rest o x e (inl l) (inl h) = absurd (none o x e l h.1 (sym h.0))
-    rest o x e (inl l) (inr h) = h
-    rest o x e (inr n) (inl h) = absurd (apart o x n e (sym h.0))
-    rest o x e (inr n) (inr h) = h
+    rest : (o : Id) (x : Object) → object_at heap o ≡ Some x → x.out ≡ true → (x.listed ≡ true) ⊎ IsUnder under o → HasItem x.cell.home.item x.cell.access x.cell.home.pool (item ∷ (items ++ items_of ms)) → HasItem x.cell.home.item x.cell.access x.cell.home.pool (items ++ items_of ms)
+    rest o x e out (inl l) (inl h) = absurd (none o x e l h.1 (sym h.0))
+    rest o x e out (inl l) (inr h) = h
+    rest o x e out (inr n) (inl h) = absurd (apart o x n e out (sym h.0))
+    rest o x e out (inr n) (inr h) = h
 
 -- The innermost master is entered, or goes, where it has no item.
 pub stored_entered : {under : List Id} {heap : List Object} {ms : List Master} (number : ℕ) → Stored under heap ms → Stored under heap (record { number = number; items = [] } ∷ ms)
@@ -215,10 +239,10 @@ stored_entered number s = record { counted = s.counted; sane = s.sane }
 pub stored_older : {under : List Id} {heap : List Object} (m : Master) (ms : List Master) → Stored under heap (record m { items = [] } ∷ ms) → Stored under heap ms
 stored_older m ms s = record { counted = s.counted; sane = s.sane }
 
--- The words of an object that exists are out.
-pub exists_out : {under : List Id} {heap : List Object} {masters : List Master} (o : Id) (x : Object) → object_at heap o ≡ Some x → x.stage ≡ Existing → Stored under heap masters → x.out ≡ true
-exists_out o x is exists s = go x.out refl
+-- The words of an object that is in its collection are out.
+pub listed_out : {under : List Id} {heap : List Object} {masters : List Master} (o : Id) (x : Object) → object_at heap o ≡ Some x → x.listed ≡ true → Stored under heap masters → x.out ≡ true
+listed_out o x is listed s = go x.out refl
   where
     go : (b : Bool) → x.out ≡ b → x.out ≡ true
     go true e = e
-    go false e = let gone = (s.sane o x is).back_gone e in absurd (cc (gone, exists))
+    go false e = let none = (s.sane o x is).back_unlisted e in absurd (cc (none, listed))

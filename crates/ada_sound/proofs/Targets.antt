@@ -30,7 +30,7 @@ use Rattle.ada_typed.specs.Holding.{cells_of}
 use Rattle.ada_typed.proofs.Values.{OperandKind, of_kind, AreComputed}
 use Rattle.ada_typed.proofs.Control as typed
 use Rattle.ada_sound.proofs.Fits.{MayFollow, is_object, component_access, place_at, store_blank}
-use Rattle.ada_sound.proofs.Stored.{Stored, exists_out, stored_filled}
+use Rattle.ada_sound.proofs.Stored.{Stored, stored_filled}
 use Rattle.ada_sound.proofs.Alters.{alters_set}
 use Rattle.ada_sound.proofs.Begins.{root_follows}
 use Rattle.ada_sound.proofs.Invariant.{outers, behind_right, begun, along, Known, Control, Rooms, ReadyIn, Goes, Raised, RunsOn, RunsAfter, RaisesAfter, NoneBroken, MayRaise, RaisesAt, Pairs, IsOne, component_among, Doing, LeadsTo, FillsIn, StaysFound, Receiving, Working, Half, HalfBy, Resumes, Clearing, EvaluatesTo, TargetsTo, StoringIn, StoresOn, Accepts, IsFollowed, Stepped, Fine, front, final, ways}
@@ -46,10 +46,9 @@ use Rattle.ada_sound.proofs.Back.{stored_before}
 use Rattle.ada_sound.proofs.Assigned.{kind_names, kind_blank, selected_of}
 use Rattle.ada_sound.proofs.Walks.{finds_fine, half_fine}
 
--- The words of an object that is there are out.
-pub followed : {under : List Id} {heap : List Object} {ms : List Master} (o : Id) → IsThere heap o → Stored under heap ms → IsFollowed (Names o) heap
-followed o (object, found, listed) stored =
-    record { id = o; object = object; is = refl; found = found; out = exists_out o object found ((stored.sane o object found).there_exists listed) stored }
+-- An object that is there is followed.
+pub followed : {heap : List Object} (o : Id) → IsThere heap o → IsFollowed (Names o) heap
+followed o (object, found, there) = record { id = o; object = object; is = refl; found = found; there = there }
 
 -- A component gets what names nothing.
 blank_works : {known : Known} {heap : List Object} {places : List Value} {ms : List Master} {more : Rooms → Holds → Type 0} (o : Id) (object : Object) (c : ℕ) (v : Value) → object_at heap o ≡ Some object → ((p : Id) → v ≡ Names p → ⊥) → Working known heap places ms more → Working known (store heap (Names o) c v) places ms more
@@ -141,7 +140,7 @@ module _ (known : Known) (k : Control) (a : Activation Value) (rest : List (Acti
   found_fine : {under : List Id} (o : Id) (there : IsThere s.heap o) (c : ℕ) (right : RightForm) (below : List Value) → Stored under s.heap s.masters → EvaluatesTo known right (StoresIn (Names o) c ∷ k) s.heap a.places s.masters → Fine known s.heap s.masters (target_next named (Names o) c right (look s.heap (Names o)) (running k (record a { operands = below }) rest s))
   found_fine o (object, found, listed) c right below stored r =
       rw (found, (stored.sane o object found).there_exists listed)
-      (stays known (Followed (Names o)) (running (Evaluates right ∷ StoresIn (Names o) c ∷ k) (record a { operands = below }) rest s) (tt, inl r) (followed o (object, found, listed) stored))
+      (stays known (Followed (Names o)) (running (Evaluates right ∷ StoresIn (Names o) c ∷ k) (record a { operands = below }) rest s) (tt, inl r) (followed o (object, found, listed)))
 
   -- The object is there, or null raises Constraint_Error.
   pub target_fine : (v : Value) (below : List Value) (c : ℕ) (right : RightForm) (kinds : List OperandKind) → typed.Fits known.program (cells_of s.heap) kinds (Targets c right ∷ k) → AreComputed known.program.types (cells_of s.heap) kinds (v ∷ below) → TargetsTo known v c right k s.heap a.places s.masters → Fine known s.heap s.masters (target_next named v c right (look s.heap v) (running k (record a { operands = below }) rest s))
@@ -158,21 +157,21 @@ module _ (known : Known) (k : Control) (a : Activation Value) (rest : List (Acti
   target_fine (Part object_id base) below c right kinds fits computed (inr h) = absurd h.1
 
   -- A value is stored in an object that is there, if it has such a component.
-  put_fine : {under : List Id} (input : List ℤ) (o : Id) (object : Object) (c : ℕ) (v : Value) (below : List Value) → object_at s.heap o ≡ Some object → is_there object.stage ≡ true → Stored under s.heap s.masters → ReadyIn known Running k (store s.heap (Names o) c v) a.places below s.masters → Stepped known s.heap (Followed (Names o)) (record (running k (record a { operands = below }) rest s) { heap = store s.heap (Names o) c v; input = input })
-  put_fine input o object c v below found listed stored r = record {
+  put_fine : (input : List ℤ) (o : Id) (object : Object) (c : ℕ) (v : Value) (below : List Value) → object_at s.heap o ≡ Some object → is_there object.stage ≡ true → ReadyIn known Running k (store s.heap (Names o) c v) a.places below s.masters → Stepped known s.heap (Followed (Names o)) (record (running k (record a { operands = below }) rest s) { heap = store s.heap (Names o) c v; input = input })
+  put_fine input o object c v below found listed r = record {
     ready = (tt, r);
     alters = rw (store_is s.heap o object found c v) (alters_set s.heap (Followed (Names o)) o object (filled c v object) found (refl, refl, refl) (λ h. h) (λ h. inl h));
-    says = followed o (object, found, listed) stored;
+    says = followed o (object, found, listed);
   }
 
-  stored_fine : {under : List Id} (o : Id) (object : Object) (c : ℕ) (v : Value) (below : List Value) (t : Option Value) → object_at s.heap o ≡ Some object → is_there object.stage ≡ true → Stored under s.heap s.masters → ReadyIn known Running k (store s.heap (Names o) c v) a.places below s.masters → Fine known s.heap s.masters (stored_next named (Names o) c v t (running k (record a { operands = below }) rest s))
-  stored_fine o object c v below None found listed stored r = tt
-  stored_fine o object c v below (Some before) found listed stored r = put_fine s.input o object c v below found listed stored r
+  stored_fine : (o : Id) (object : Object) (c : ℕ) (v : Value) (below : List Value) (t : Option Value) → object_at s.heap o ≡ Some object → is_there object.stage ≡ true → ReadyIn known Running k (store s.heap (Names o) c v) a.places below s.masters → Fine known s.heap s.masters (stored_next named (Names o) c v t (running k (record a { operands = below }) rest s))
+  stored_fine o object c v below None found listed r = tt
+  stored_fine o object c v below (Some before) found listed r = put_fine s.input o object c v below found listed r
 
   pub filled_fine : {under : List Id} (o : Id) (there : IsThere s.heap o) (c : ℕ) (v : Value) (below : List Value) → Stored under s.heap s.masters → ReadyIn known Running k (store s.heap (Names o) c v) a.places below s.masters → Fine known s.heap s.masters (store_next named (Names o) c v (look s.heap (Names o)) (running k (record a { operands = below }) rest s))
   filled_fine o (object, found, listed) c v below stored r =
       let looks : look s.heap (Names o) ≡ finds object.cell = rw (found, (stored.sane o object found).there_exists listed) refl in
-      rw looks (stored_fine o object c v below (slice_get object.cell.values c) found listed stored r)
+      rw looks (stored_fine o object c v below (slice_get object.cell.values c) found listed r)
 
   -- Objects are stored before a value comes, on which a take pair may rely.
   half_stored : (heap : List Object) (k : Control) → HalfBy known k heap a.places s.masters → Stored (outers known).under heap s.masters
@@ -238,9 +237,9 @@ module _ (known : Known) (k : Control) (a : Activation Value) (rest : List (Acti
   received_fine o object c below input None found listed w = tt
   received_fine o object c below [] (Some before) found listed w =
       stays known (Followed (Names o)) (jumping (Raising EndError) (running k (record a { operands = below }) rest s))
-      (tt, goes_ready known (Raising EndError) k s.heap a.places [] s.masters (at_less w (w.rest.2 refl))) (followed o (object, found, listed) w.stored)
+      (tt, goes_ready known (Raising EndError) k s.heap a.places [] s.masters (at_less w (w.rest.2 refl))) (followed o (object, found, listed))
   received_fine o object c below (i ∷ is) (Some before) found listed w =
-      put_fine is o object c (named.integer i) below found listed w.stored
+      put_fine is o object c (named.integer i) below found listed
       (runs_ready known k (store s.heap (Names o) c (named.integer i)) a.places below s.masters (blank_works {more = RunsOn known k} o object c (named.integer i) found (λ p e. cc e) (at_work w w.rest.3)))
 
   pub receive_fine : (v : Value) (below : List Value) (c : ℕ) → Working known s.heap a.places s.masters (Receiving known s.heap v k) → Fine known s.heap s.masters (receive_next named v c (look s.heap v) (running k (record a { operands = below }) rest s))

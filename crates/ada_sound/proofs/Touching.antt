@@ -2,7 +2,7 @@
 -- a part of a copy, where no Adjust tracks, or a Finalize of one at the leaving of its master, or where a variable or a component is freed that names it, or another record is assigned to it. What holds
 -- there, and what is kept of all that waits for it.
 
-use Rattle.std.proofs.Common.{◌≡◌, ◌≢◌, ℕ, true, false, List, [], ◌∷◌, ◌++◌, ◌⊎◌, Option, drop, length, suc, take, not, ◌&&◌}
+use Rattle.std.proofs.Common.{◌≡◌, ◌≢◌, ℕ, ◌≤◌, true, false, List, [], ◌∷◌, ◌++◌, ◌⊎◌, Option, drop, length, suc, take, not, ◌&&◌}
 use Rattle.std.specs.Prelude.{Bool, Some, None, ◌==◌}
 use Rattle.std.specs.List.{slice_get, slice_set, list_any}
 use Rattle.ada_parts.specs.Task.{Task}
@@ -26,19 +26,19 @@ use Rattle.ada_meaning.specs.declared.state.Value.{Value}
 use Rattle.ada_meaning.specs.declared.state.Value.TheVariants.{Names, Part, Null, Scalar}
 use Rattle.ada_meaning.specs.Frame.{Treatment, begins, ends, Leaves, Ends, GivesBack, Clears, ClearsIn, Resumes, StoresRecord, Copies}
 use Rattle.ada_meaning.specs.Heap.{Home}
-use Rattle.ada_meaning.specs.State.{Master}
+use Rattle.ada_meaning.specs.State.{Master, height}
 use Rattle.ada_meaning.specs.Named.{Object, State, object_at}
 use Rattle.ada_typed.proofs.Kept.{behind_call}
 use Rattle.ada_sound.proofs.Bodies.{IsBody}
-use Rattle.ada_sound.proofs.Callers.{Suspension, known_in, Stands, callers_of}
+use Rattle.ada_sound.proofs.Callers.{AreCalls, IsCall, Suspension, known_in, Stands}
 use Rattle.ada_sound.proofs.Fits.{Fit, Outsiders, IsPlace, IsRelied, IsSaid, IsUnreferred, IsOwnedOutside, component_access, none_spared, outer_hold, outer_value, place_at, Reference, IsReferred}
 use Rattle.ada_sound.proofs.Allowance.{Allowance, allowance_of}
 use Rattle.ada_sound.proofs.CopiedOwners.{CopyLeft, owners_left}
 use Rattle.ada_sound.proofs.FrugalControl.{FrugalOperated, Frugally, IsInside, operated_in}
 use Rattle.ada_sound.proofs.Held.{FreeIf, holder_if}
-use Rattle.ada_sound.proofs.Invariant.{AdjustsAside, SparesHolder, body_among, CoveredIn, Control, Rooms, Roomed, GoesTo, MayAwait, RoomFor, RunsOn, Known, IsNewest, Ready, Spares, StartsTo, Unaliased, departs, below, innermost, outers, BeginsWell, CameOut, To, By, ways, IsAwaited, under_in, AssignsWell, IsCopied, LiesAmong, AdjustedBehind, IsCovered, EndsWellBy}
+use Rattle.ada_sound.proofs.Invariant.{AdjustsAside, SparesHolder, body_among, CoveredIn, Control, Rooms, Roomed, GoesTo, MayAwait, RoomFor, RunsOn, Known, IsNewest, Ready, Spares, StartsTo, Unaliased, departs, departs_next, below, innermost, outers, BeginsWell, CameOut, To, By, ways, LiesBelow, OneAwaits, AssignsWell, IsCopied, LiesAmong, AdjustedBehind, IsCovered, EndsWellBy}
 use Rattle.ada_sound.proofs.Operating.{WaitsFor, IsCalm, lets_out}
-use Rattle.ada_sound.proofs.Stored.{Stored}
+use Rattle.ada_sound.proofs.Stored.{HasDeparted, IsUnder, Stored}
 use Rattle.ada_sound.specs.Agreement.{running_procedure}
 use Rattle.ada_finalized.specs.Law.{NoOperationRunsOn, NothingBegins}
 use Rattle.ada_meaning.specs.declared.event.Cause.{Cause}
@@ -321,8 +321,18 @@ Watched program (Some w) behind lower s =
     × ((apart : Apart) × AreApart p program.types.items (watches p.types (Some w)) apart
     × IsReaching p (watches p.types (Some w)) apart (is_watched (Some w)) (is_unnamed p.types (Some w)) behind lower s)
 
+-- Where an object has gone with its collection, though it is there, something is so around.
+abbrev pub AreAround : List Object → (around : Type 0) → Type 0
+AreAround heap around = (o : Id) (x : Object) → HasDeparted heap o x → around
+
+-- In the midst of the leaving of such collections, an object is finalized.
+abbrev pub departs_by : Treatment → (departs : Bool) → Control → Bool
+departs_by (begins by done) b k = false
+departs_by (ends cause) b k = departs_next b k
+
 -- What is known where such a body is called: what waits for it, whether the object is held, which is in hand then, and what it may free, of which there is no
--- alias. Each other object of that to which the activation that waits refers is owned outside of it.
+-- alias. Each other object of that to which the activation that waits refers is owned outside of it. All that it relies on and refers to has its home in an item
+-- of its masters, or an operation runs around it, and that has gone with its collection.
 pub record Enters (known : Known) (treatment : Treatment) (o : Id) (x : Object) (after : Control) (heap : List Object) (places operands : List Value) (masters : List Master) : Type 0 where
   pub rooms : Rooms
   pub holds : Holds
@@ -341,6 +351,10 @@ pub record Enters (known : Known) (treatment : Treatment) (o : Id) (x : Object) 
   pub spares : Spares known may
   pub unaliased : Unaliased known.program.variables may holds
   pub kept : (p : Id) (t : ℕ) → IsReferred also p t → may t ≡ true → is_access known.program.types t ≡ true → IsOwnedOutside (outers known) p
+  pub low : (y : ℕ) (p : Id) → IsRelied (hold_at holds y) → place_at places y ≡ Names p → LiesBelow heap (height masters) (OneAwaits known.callers) p
+  pub lies : LiesBelow heap (height masters) (OneAwaits known.callers) o
+  pub others_low : (p : Id) (t : ℕ) → IsReferred also p t → LiesBelow heap (height masters) (OneAwaits known.callers) p
+  pub under_low : (p : Id) → IsUnder (under_way treatment o) p → (object : Object) × (object_at heap p ≡ Some object) × (suc object.cell.home.item ≤ height masters)
 
 -- The activation that waits for the body, whose formal parameter stands for a record in the object.
 abbrev pub resting : (procedure : Option ℕ) (places : List Value) (treatment : Treatment) (object : Id) (access : ℕ) (also : List Reference) (place : Place) (behind : Control) (lower : List Master) → Keeping → Rooms → Holds → Suspension
@@ -415,10 +429,6 @@ pub record Pause (program : Program) (depth : ℕ) (s : State) : Type 0 where
 abbrev pub origin : (program : Program) (depth : ℕ) (s : State) → Pause program depth s → Suspension
 origin program depth s f = holding f.held f.procedure f.places f.treatment f.object f.access f.also f.place f.behind f.lower f.kept f.rooms f.holds
 
--- An activation waits for a call, and nothing is under way in it.
-abbrev pub IsCall : Suspension → Type 0
-IsCall g = (IsAwaited g.control → ⊥) × (g.under ≡ [])
-
 -- The objects whose operations these activations wait for, the nearest one first.
 abbrev pub operated_among : List Suspension → List Value
 operated_among [] = []
@@ -458,12 +468,12 @@ pub record Within (program : Program) (gs : List Suspension) (s : State) : Type 
   pub untreated : (v : Value) → v ≢ Names outermost.object → NothingBegins v outermost.after
   pub alone : NoOperationRunsOn (Names outermost.object) outermost.after
   pub calm : IsCalm (behind_call outermost.behind)
-  pub settled : under_in (callers_of program outermost.suspensions) ≡ []
+  pub settled : AreCalls outermost.suspensions
   pub may : may_be_frugal (program_form program) ≡ true
 
 -- What is around a body, or around what is treated, where these activations wait: no operation runs, or one that touches storage is under way.
 abbrev pub Around : (program : Program) → List Suspension → State → Type 0
-Around program gs s = (IsCalm (behind_call s.control) × (under_in (callers_of program gs) ≡ [])) ⊎ Within program gs s
+Around program gs s = (IsCalm (behind_call s.control) × (AreCalls gs)) ⊎ Within program gs s
 
 -- The body of an operation that touches storage runs, or one that it has called, or the operation of an object that one of these frees or allocates.
 pub record Touching (program : Program) (s : State) : Type 0 where

@@ -2,7 +2,7 @@
 -- what it may free no suspended activation has an alias.
 
 use Rattle.ada_meaning.specs.declared.state.Mode.TheVariants.{Running}
-use Rattle.std.proofs.Common.{◌⊎◌, ◌≡◌, ◌≢◌, ◌≤◌, ℕ, zero, suc, true, List, [], ◌∷◌, ◌++◌, length, map, take, refl, sym, ap, subst, ◌∙◌, inl, inr, false}
+use Rattle.std.proofs.Common.{◌⊎◌, ◌≡◌, ◌≢◌, ℕ, zero, suc, true, List, [], ◌∷◌, ◌++◌, length, map, take, refl, sym, ap, subst, ◌∙◌, inl, inr, false}
 use Rattle.std.specs.Prelude.{Some}
 use Rattle.std.specs.List.{slice_get}
 use Rattle.ada_deeds.specs.Implicit.{implicit_of}
@@ -30,7 +30,7 @@ use Rattle.ada_meaning.specs.State.{Activation, Master, height}
 use Rattle.ada_meaning.specs.Step.{given_places, operating}
 use Rattle.ada_meaning.specs.Named.{Object, State, named, object_at}
 use Rattle.ada_meaning.specs.Run.{Event}
-use Rattle.ada_owners.specs.Places.{access_at, is_there, variable}
+use Rattle.ada_owners.specs.Places.{access_at, is_there}
 use Rattle.ada_owners.specs.Reliance.{Owns, Borrows, Says}
 use Rattle.ada_typed.proofs.Bodies.{seen_as}
 use Rattle.ada_sound.proofs.Activations.{called_fit}
@@ -38,27 +38,25 @@ use Rattle.ada_sound.proofs.Alters.{Alters}
 use Rattle.ada_sound.proofs.BegunOutside.{begun_owned, owned_behind}
 use Rattle.ada_sound.proofs.Bodies.{IsBody, seen_is}
 use Rattle.ada_sound.proofs.BodyRuns.{body_runs}
-use Rattle.ada_sound.proofs.Calls.{home_low, relied_says}
-use Rattle.ada_sound.proofs.Callers.{Suspension, caller_of, known_in, Stands}
+use Rattle.ada_sound.proofs.Callers.{Suspension, caller_of, callers_of, known_in, Stands}
 use Rattle.ada_sound.proofs.Touching.{AdjustsBy, CoversBy, Enters, Pause, Rests, under_way, Watched, holding, origin}
 use Rattle.ada_sound.proofs.SparesOwn.{spares_end}
 use Rattle.ada_sound.specs.Agreement.{running_procedure}
 use Rattle.ada_sound.specs.Always.{SparesOwn}
-use Rattle.ada_sound.proofs.Fits.{Fit, IsOwnedOutside, IsPlace, IsReferred, IsSaid, IsWithin, NoOuterAlias, none_spared, outer_access, outer_hold, place_at, IsRelied, there_by, Reference}
+use Rattle.ada_sound.proofs.Fits.{Fit, IsOwnedOutside, IsPlace, IsReferred, IsSaid, IsWithin, NoOuterAlias, none_spared, outer_access, outer_hold, place_at, Reference}
 use Rattle.ada_sound.proofs.Held.{fit_held, held_borrows, held_lies, holder_if, with_held}
-use Rattle.ada_sound.proofs.Invariant.{Control, CoveredIn, Known, Ready, RunsOn, Spares, outer_of, outers, body_among, IsAwaited}
+use Rattle.ada_sound.proofs.Invariant.{Control, CoveredIn, Known, LiesBelow, OneAwaits, Ready, RunsOn, Spares, outer_of, outers, body_among, IsAwaited}
 use Rattle.ada_sound.proofs.Operating.{WaitsFor, behind_operation, lets_out}
 use Rattle.ada_sound.proofs.Orderings.{as_good}
 use Rattle.ada_sound.proofs.Returns.{same_types}
 use Rattle.ada_sound.proofs.Starts.{Obeys, untracked_body_obeys, lost_first, none_out, none_on}
 use Rattle.ada_sound.proofs.Trackers.{untracked_by}
 use Rattle.ada_quiet.specs.Apart.{is_tracker}
-use Rattle.ada_sound.proofs.Stored.{stored_entered, IsUnder}
+use Rattle.ada_sound.proofs.Stored.{stored_entered}
 use Rattle.ada_sound.proofs.Waiting.{stands_kept}
 use Rattle.ada_program.specs.declared.program.Exception.{Exception}
 use Rattle.ada_meaning.specs.declared.event.Birth.TheVariants.{Creation, Copy, Adjustment}
 use Rattle.ada_meaning.specs.declared.event.Cause.{Cause}
-use Rattle.ada_meaning.specs.declared.event.Cause.TheVariants.{Leaving, Freeing, Assigning, Undoing}
 use Rattle.ada_parts.specs.Part as parts
 
 -- The body of an operation that touches storage has begun, in a master of its own: the activation that waits for it, in front of these, goes on behind it, with this
@@ -243,27 +241,13 @@ module _ (program : Program) (well : IsWellFormed (program_form program)) (obeys
         subst (λ (c : BodyForm). RunsOn body (Elaborates c.declarations c.statements c.handlers ∷ Returns [] [] ∷ behind) (gone_with c.declarations ∷ []) (first_holds c.formals c.variables)) same_body
         (body_runs program (Some number) (waiting ∷ gs) (untracked_body_obeys program number b there (untracked_by (program_form program) number b apart) obeys.1) (none_out program (Some number) well) (none_on program (Some number) well) spares refl)
 
-    -- What the waiting activation relies on lies in masters that were entered before.
-    variables_low : (y : ℕ) (q : Id) → IsRelied (hold_at at.holds y) → place_at a.places y ≡ Names q → (object : Object) × (object_at heap q ≡ Some object) × (suc object.cell.home.item ≤ height s.masters)
-    variables_low y q relied names =
-        home_low heap s.masters q at.stored (there_by heap _ q (relied_says heap (hold_at at.holds y) _ q relied (at.fit.owners.fit.relied (variable y) q names)))
+    -- What the waiting activation refers to lies in masters that were entered before, or it has gone with its collection where an operation runs around.
+    abbrev Lies : Id → Type 0
+    Lies q = LiesBelow heap (height s.masters) (OneAwaits (callers_of program gs)) q
 
-    object_low : (object : Object) × (object_at heap o ≡ Some object) × (suc object.cell.home.item ≤ height s.masters)
-    object_low = home_low heap s.masters o at.stored (x, found, exists)
-
-    referred_low : (q : Id) (t : ℕ) → IsReferred (record { object = o; access = x.cell.access } ∷ at.also) q t → (object : Object) × (object_at heap q ≡ Some object) × (suc object.cell.home.item ≤ height s.masters)
-    referred_low q t (inl (same, of)) = rw (← same) object_low
-    referred_low q t (inr other) = home_low heap s.masters q at.stored (there_by heap (Some t) q (at.there q t other))
-
-    under_low : (by : Treatment) (q : Id) → IsUnder (under_way by o) q → (object : Object) × (object_at heap q ≡ Some object) × (suc object.cell.home.item ≤ height s.masters)
-    under_low (frame.begins by done) q none = absurd none
-    under_low (frame.ends (Leaving m item)) q (inl same) = rw (← same) object_low
-    under_low (frame.ends (Leaving m item)) q (inr none) = absurd none
-    under_low (frame.ends (Freeing number)) q (inl same) = rw (← same) object_low
-    under_low (frame.ends (Freeing number)) q (inr none) = absurd none
-    under_low (frame.ends (Assigning number)) q none = absurd none
-    under_low (frame.ends (Undoing number)) q (inl same) = rw (← same) object_low
-    under_low (frame.ends (Undoing number)) q (inr none) = absurd none
+    referred_low : (q : Id) (t : ℕ) → IsReferred (record { object = o; access = x.cell.access } ∷ at.also) q t → Lies q
+    referred_low q t (inl (same, of)) = subst Lies same at.lies
+    referred_low q t (inr other) = at.others_low q t other
 
     pub touching_begins : (e : Event) (of : ℕ) (tasks : List Task) → AdjustsBy known treatment x.cell.access tasks k at.rooms at.holds → Alters s.heap e heap → WaitsFor (program_form program).types o of treatment tasks k behind → IsAwaited behind → Stands program gs (record s { activations = a ∷ rest })
         → Watched program at.watch behind s.masters (operating named number b (Part o place) behind (record s { activations = a ∷ rest; heap = heap; mode = Running }))
@@ -331,7 +315,7 @@ module _ (program : Program) (well : IsWellFormed (program_form program)) (obeys
               standing = record {
                 suspended = (refl, stands.standing.suspended);
                 waiting = (inr (record { roomed = at.waits.roomed; covers = covers; operated = waited }), stands.standing.waiting);
-                low = (variables_low, referred_low, under_low treatment, still.standing.low, held_lies at.held o x.cell.access heap (height s.masters) object_low);
+                low = (at.low, referred_low, at.under_low, still.standing.low, held_lies at.held o x.cell.access Lies at.lies);
               };
             };
             runs = refl;

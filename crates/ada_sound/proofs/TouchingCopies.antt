@@ -1,7 +1,7 @@
 -- The Adjust of a part of a copy is called that touches storage (7.6), in a program in which no Adjust tracks: so no component of the copy is of an access type
 -- that is to be adjusted, and what waits for it is as it was.
 
-use Rattle.std.proofs.Common.{◌≡◌, ◌≢◌, ℕ, Bool, true, false, not, ◌||◌, List, [], ◌∷◌, refl, sym, ap, subst, ◌∙◌}
+use Rattle.std.proofs.Common.{◌≡◌, ℕ, Bool, true, false, not, ◌||◌, List, [], ◌∷◌, refl, sym, ap, subst, ◌∙◌}
 use Rattle.std.specs.Prelude.{Option, Some, None, flat_map}
 use Rattle.std.specs.List.{Contains, slice_get}
 use Rattle.ada_deeds.proofs.Freed.{deed}
@@ -14,6 +14,7 @@ use Rattle.ada_meaning.specs.declared.state.Value.{Value}
 use Rattle.ada_meaning.specs.declared.state.Value.TheVariants.{Names}
 use Rattle.ada_meaning.specs.Frame.{Treatment, begins}
 use Rattle.ada_meaning.specs.Named.{Object, object_at}
+use Rattle.ada_owners.specs.Places.{is_there}
 use Rattle.ada_meaning.specs.State.{Master}
 use Rattle.ada_meaning.specs.Step.{beginning}
 use Rattle.ada_parts.specs.Law.{parts_left}
@@ -34,12 +35,13 @@ use Rattle.ada_sound.proofs.Callers.{Suspension, known_in}
 use Rattle.ada_sound.proofs.CopiedOwners.{BeginsCopy, CopyLeft, SeesToOwners, hiding, owners_left, owners_numbered, part_owners}
 use Rattle.ada_sound.proofs.CopyParts.{head_in, left_called, tail_in}
 use Rattle.ada_sound.proofs.FrugalUseEnds.{covered_done, done_lying}
-use Rattle.ada_sound.proofs.Invariant.{AdjustsAside, AdjustsTo, Control, CoveredIn, Known, RunsOn, Working}
+use Rattle.ada_sound.proofs.Invariant.{AdjustsAside, AdjustsTo, Control, CoveredIn, Known, OneAwaits, RunsOn, Working}
 use Rattle.ada_sound.proofs.NoneHidden.{blanked_none}
 use Rattle.ada_sound.proofs.OnlyParts.{passed_at}
 use Rattle.ada_sound.proofs.PartsApart.{left_sees}
 use Rattle.ada_sound.proofs.Returns.{same_types}
-use Rattle.ada_sound.proofs.Touching.{AdjustsBy, Adjusts, Enters, IsSpared, Rests, treated_frees}
+use Rattle.ada_sound.proofs.Touching.{AdjustsBy, Adjusts, AreAround, Enters, IsSpared, Rests, treated_frees}
+use Rattle.ada_sound.proofs.TouchingRests.{names_lie, there_lies}
 use Rattle.ada_sound.proofs.Trackers.{owns_access}
 
 -- What is known where the body begins of an operation that touches storage: what waits for it, and what is left behind it, if that is an Adjust; and what the body
@@ -112,13 +114,16 @@ module _ (program : Program) (well : IsWellFormed (program_form program)) where
       module _
           (o : Id) (x : Object) (heap : List Object) (found : object_at heap o ≡ Some x) (places operands : List Value) (ms : List Master) (k : Control)
           (not_bare : has_bare_objects known.program.types x.cell.access ≡ false) (of part : ℕ) (tasks : List Task)
-          (to : AdjustsTo known (Names o) (performs of part ∷ tasks) k heap places ms)
+          (to : AdjustsTo known (Names o) (performs of part ∷ tasks) k heap places ms) (around : AreAround heap (OneAwaits known.callers))
         where
           same_object : to.o ≡ o
           same_object = let is = to.is in cc is
 
           same_found : to.x ≡ x
           same_found = let there = to.found in cc (rw same_object at there, found)
+
+          there : is_there x.stage ≡ true
+          there = rw same_found at to.there
 
           -- What is left of the copy, this part included.
           whole : CopyLeft known.program.types x.cell.access to.record_type (performs of part ∷ tasks)
@@ -169,6 +174,10 @@ module _ (program : Program) (well : IsWellFormed (program_form program)) where
             spares = aside.1.0;
             unaliased = aside.1.1;
             kept = λ q t none freed access. absurd none;
+            low = names_lie known heap places ms works.stored around works.holds works.fit;
+            lies = there_lies known heap places ms works.stored around o (x, found, there);
+            others_low = λ q t none. absurd none;
+            under_low = λ q none. absurd none;
           }
 
           -- The body frees no more than the adjustment.

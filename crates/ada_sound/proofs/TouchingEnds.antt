@@ -29,7 +29,8 @@ use Rattle.ada_parts.specs.Part as parts
 use Rattle.ada_meaning.specs.Frame.{Returns, Ends, ends, begins, Treatment, Stores, Declares, StoresIn, StoresRecord}
 use Rattle.ada_meaning.specs.Frame as frame
 use Rattle.ada_meaning.specs.State.{Activation, Master}
-use Rattle.ada_meaning.specs.Step.{moves, operands, places, mode_next, procedure_of, places_of, operands_of, older, first_or}
+use Rattle.ada_finalized.specs.Law.{NoOperationRunsOn}
+use Rattle.ada_meaning.specs.Step.{moves, treating, operands, places, mode_next, procedure_of, places_of, operands_of, older, first_or}
 use Rattle.ada_meaning.specs.Named.{Object, State, named, next, object_at, store}
 use Rattle.ada_owners.specs.Places.{Place, variable, component, elsewhere, value_at, access_at, is_there}
 use Rattle.ada_owners.specs.Reliance.{Owns, Borrows}
@@ -41,12 +42,15 @@ use Rattle.ada_sound.proofs.Activations.{returned_fit}
 use Rattle.ada_sound.proofs.Awaiting.{goes_along}
 use Rattle.ada_sound.proofs.Callers.{rest_of, Suspension, caller_of, known_in, Stands, AreOf, callers_of}
 use Rattle.ada_sound.proofs.Emptying.{null_again}
-use Rattle.ada_sound.proofs.FrugalControl.{MayBegin}
+use Rattle.ada_sound.proofs.Allowance.{Allowance}
+use Rattle.ada_sound.proofs.FrugalControl.{FrugalOperated, MayBegin}
+use Rattle.ada_sound.proofs.FrugalLeaves.{operated_stays}
+use Rattle.ada_sound.proofs.Grounds.{Grounds}
 use Rattle.ada_sound.proofs.Held.{fit_unheld, held_alone, holder_if, unnamed_hand, with_held}
 use Rattle.ada_sound.proofs.NoneHidden.{blanked_none}
 use Rattle.ada_sound.proofs.Touching.{Adjusts, AdjustsBy, AwaitsAmong, Departs, IsNamedNowhere, Pause, Empties, Resting, Rests, RestsAsOwned, RestsAtEnd, Starting, Naming, under_way, Undoes, origin, Overwrites, Releases, RestsBy, StoresInto, Watch, Watched}
 use Rattle.ada_sound.proofs.Fits.{Fit, Hand, hold_in, place_at, is_object, stacked, none_spared, plain_place, put_owner, sparing, outer_hold, outer_value_at, spare_fit, weaker_fit, IsReferred, Reference, component_access, component_value, referred_first, store_blank, store_owner}
-use Rattle.ada_sound.proofs.Invariant.{AdjustsTo, SparesHolder, AllWait, Control, Known, Rooms, GoesOn, Working, Ending, EndsTo, ReadyIn, TreatsBy, innermost, outer_of, outers, IsLive, Beginning, StartsTo, BeginsWell, Ready, IsActive, AreSuspended, CopiesBehind, EndsBy, LiesIn, StoresBehind, FreesWell, IsCovered, EndsWellBy, AwaitsIn, GoesTo, HasRoom, IsHolder, IsMade, Making, NamesTo, RoomFor, To, RunsOn}
+use Rattle.ada_sound.proofs.Invariant.{AdjustsTo, SparesHolder, AllWait, Control, Known, Rooms, GoesOn, Working, Ending, EndsTo, ReadyIn, TreatsBy, innermost, outer_of, outers, IsLive, Beginning, StartsTo, BeginsWell, Ready, IsActive, AreSuspended, CopiesBehind, EndsBy, LiesIn, StoresBehind, FreesWell, IsCovered, EndsWellBy, AwaitsIn, GoesTo, HasRoom, IsHolder, IsMade, Making, NamesLow, NamesTo, OneAwaits, RoomFor, To, RunsOn, IsOut, departs}
 use Rattle.ada_sound.proofs.Operating.{behind_operation, lets_out, WaitsFor}
 use Rattle.ada_sound.proofs.Waiting.{stands_behind}
 use Rattle.ada_sound.proofs.Returns.{CrossesTo, same_types}
@@ -57,6 +61,7 @@ use Rattle.ada_sound.proofs.Alters.{Alters, alters_same}
 use Rattle.ada_sound.specs.Agreement.{running_procedure, IsBehind}
 use Rattle.ada_sound.proofs.Bodies.{IsBody}
 use Rattle.ada_sound.proofs.TouchingRests.{IsEnd}
+use Rattle.ada_sound.proofs.TouchingStands.{finalized_by, treating_before}
 
 -- No place names an object that no component owns, where no variable is relied on to name it.
 module _ (known : Known) (heap : List Object) (held : List Value) (holds : Holds) (spared : Id → Bool) (o : Id) (alone : (p : Id) (c : ℕ) → value_at heap (stacked held (outers known)) (component p c) ≡ Names o → ⊥) (nowhere : IsNamedNowhere (outers known) held holds o) where
@@ -93,7 +98,56 @@ left_begins (Raising e) = tt
 left_begins Exiting = tt
 left_begins Returning = tt
 
-module _ (program : Program) (well : IsWellFormed (program_form program)) (s : State) (f : Pause program 0 s) (parted : (cause : Cause) → IsEnd cause → f.treatment ≡ ends cause → f.x.listed ≡ false) (ready : Ready (known_in program (running_procedure s) (origin program 0 s f ∷ f.suspensions)) s) (stands_now : Stands program (origin program 0 s f ∷ f.suspensions) s) (operates : running_procedure s ≡ Some f.number) (a b : Activation Value) (rest : List (Activation Value)) (acts_so : s.activations ≡ a ∷ b ∷ rest) (ends_now : s.control ≡ Returns [] [] ∷ f.behind) (masters_are : s.masters ≡ f.lower) where
+-- Where the object goes with its collection, no operation runs around the activation that goes on.
+abbrev pub DepartsApart : (program : Program) (s : State) → Pause program 0 s → Type 0
+DepartsApart program s f =
+    Departs (known_in program f.procedure f.suspensions) f.object f.home f.after f.lower f.rooms f.holds → OneAwaits (callers_of program f.suspensions) → ⊥
+
+-- So it is inside another operation, where no object goes so.
+pub none_departs :
+    (program : Program) (s : State) (f : Pause program 0 s) (frugal : Allowance) (back : Control) (among : List Value) (upper lower : List Master) → f.lower ≡ upper ++ lower
+    → FrugalOperated frugal back among f.behind upper → DepartsApart program s f
+none_departs program s f frugal back among upper lower masters leads r awaits = by f.treatment f.awaited
+  where
+    behind_it : Control
+    behind_it = Ends (Names f.object) ∷ frame.GivesBack (Names f.object) (Leaving r.master r.item) f.home.pool ∷ frame.Leaves r.mode ∷ r.rest
+
+    by : (treatment : Treatment) → WaitsFor (program_form program).types f.object f.of treatment f.tasks f.after f.behind → ⊥
+    by (begins birth done) (part, is) =
+        let there : FrugalOperated frugal back among (frame.Awaits (Names f.object) birth done f.of part f.tasks ∷ f.after) upper = subst (λ (k : Control). FrugalOperated frugal back among k upper) is leads in
+        let waits : FrugalOperated frugal back among (frame.Awaits (Names f.object) birth done f.of part f.tasks ∷ behind_it) upper =
+        subst (λ (k : Control). FrugalOperated frugal back among (frame.Awaits (Names f.object) birth done f.of part f.tasks ∷ k) upper) r.is there in
+        waits.3.1.1.0
+    by (ends cause) (is, inside) =
+        let there : FrugalOperated frugal back among (frame.Confines ∷ treating (Names f.object) (ends cause) f.tasks f.after) upper = subst (λ (k : Control). FrugalOperated frugal back among k upper) is leads in
+        let waits : FrugalOperated frugal back among (frame.Confines ∷ treating (Names f.object) (ends cause) f.tasks behind_it) upper =
+        subst (λ (k : Control). FrugalOperated frugal back among (frame.Confines ∷ treating (Names f.object) (ends cause) f.tasks k) upper) r.is there in
+        let ahead = (known_in program f.procedure f.suspensions).ahead in
+        let stays : departs ahead (innermost (upper ++ lower)) ≡ false =
+        operated_stays ahead frugal back among (Names f.object) (Names f.object) (ends cause) f.tasks r.master r.item f.home.pool r.mode r.rest upper lower waits in
+        let goes : departs ahead (innermost (upper ++ lower)) ≡ true = rw masters at r.departs_so in
+        cc (stays, goes)
+
+-- The words of an object are out whose operation ends: it has not gone with its collection.
+pub touching_out : (program : Program) (s : State) → Grounds program s → (f : Pause program 0 s) → s.control ≡ Returns [] [] ∷ f.behind → is_there f.x.stage ≡ true → f.x.out ≡ true
+touching_out program s grounds f ends_next there = by f.x.out refl
+  where
+    runs_on : (treatment : Treatment) → WaitsFor (program_form program).types f.object f.of treatment f.tasks f.after f.behind → f.treatment ≡ treatment → NoOperationRunsOn (Names f.object) f.behind → ⊥
+    runs_on (begins birth done) (part, is) way none = let first = (subst (NoOperationRunsOn (Names f.object)) is none).0 in first refl
+    runs_on (ends cause) (is, inside) way none =
+        let rests : RestsBy (known_in program f.procedure f.suspensions) cause f.held f.watch f.object f.access f.home f.places f.operands f.also f.after f.lower f.rooms f.holds = rw way at f.rests in
+        let first = (subst (NoOperationRunsOn (Names f.object)) is none).0 in
+        first (treating_before (Names f.object) cause f.tasks f.after (finalized_by (known_in program f.procedure f.suspensions) cause f.held f.watch f.object f.access f.home f.places f.operands f.also f.after f.lower f.rooms f.holds rests))
+
+    by : (out : Bool) → f.x.out ≡ out → f.x.out ≡ true
+    by true out = out
+    by false back =
+        let alone = grounds.departed f.object f.x (record { found = f.found; there = there; back = back }) in
+        let none : NoOperationRunsOn (Names f.object) (Returns [] [] ∷ f.behind) = subst (NoOperationRunsOn (Names f.object)) ends_next alone.unrun in
+        absurd (runs_on f.treatment f.awaited refl none)
+
+module _ (program : Program) (well : IsWellFormed (program_form program)) (s : State) (f : Pause program 0 s) (parted : (cause : Cause) → IsEnd cause → f.treatment ≡ ends cause → f.x.listed ≡ false)
+    (out : is_there f.x.stage ≡ true → f.x.out ≡ true) (apart : DepartsApart program s f) (ready : Ready (known_in program (running_procedure s) (origin program 0 s f ∷ f.suspensions)) s) (stands_now : Stands program (origin program 0 s f ∷ f.suspensions) s) (operates : running_procedure s ≡ Some f.number) (a b : Activation Value) (rest : List (Activation Value)) (acts_so : s.activations ≡ a ∷ b ∷ rest) (ends_now : s.control ≡ Returns [] [] ∷ f.behind) (masters_are : s.masters ≡ f.lower) where
   abbrev own : Known
   own = known_in program f.procedure f.suspensions
 
@@ -194,6 +248,23 @@ module _ (program : Program) (well : IsWellFormed (program_form program)) (s : S
       let same : present.object ≡ f.x = let is = present.found in let found = f.found in cc (is, found) in
       (works.stored.sane f.object f.x f.found).there_exists (rw same at present.there)
 
+  -- So its words are out.
+  out_still : f.x.out ≡ true
+  out_still = out (rw exists_still refl)
+
+  out_here : IsOut s.heap (Names f.object)
+  out_here p z is at =
+      let same : f.object ≡ p = cc is in
+      let one : f.x ≡ z = let found = f.found in cc (rw (← same) at at, found) in
+      rw one at out_still
+
+  -- Where it goes with its collection, what each variable is relied on to name has its home in these masters.
+  names_low : Departs own f.object f.home f.after f.lower f.rooms f.holds → NamesLow s.heap f.places f.lower f.holds
+  names_low r y p object relied names at =
+      let lies = stands_parts.standing.low.0 y p relied names in
+      let one : lies.0 ≡ object = let found = lies.1 in cc (found, at) in
+      elim (lies.2) [ inl low ↦ rw one at low | inr around ↦ absurd (apart r around.1) ]
+
   -- No place names the object, where nothing is relied on to name it.
   unnamed_by : (held : List Value) (holds : Holds) (spared : Id → Bool) → IsAlone → IsNamedNowhere (outers own) held holds f.object → IsUnnamed s.heap (stacked held (outers own)) (hold_in (outers own) spared holds) f.object
   unnamed_by held holds spared alone nowhere = unnamed_here own s.heap held holds spared f.object alone nowhere
@@ -234,6 +305,7 @@ module _ (program : Program) (well : IsWellFormed (program_form program)) (s : S
         object = f.x;
         found = f.found;
         exists = exists_still;
+        out = out_still;
         parted = parted cause end is;
         stored = end_stored cause end is;
         covered = tt;
@@ -266,6 +338,7 @@ module _ (program : Program) (well : IsWellFormed (program_form program)) (s : S
         object = f.x;
         found = f.found;
         exists = exists_still;
+        out = out_still;
         parted = parted cause end is;
         stored = end_stored cause end is;
         covered = tt;
@@ -284,7 +357,7 @@ module _ (program : Program) (well : IsWellFormed (program_form program)) (s : S
                 roomed = f.waits.roomed;
                 fit = fit;
                 aside = tt;
-                rest = r.runs;
+                rest = (r.runs, names_low r);
               },
             ),
           ),
@@ -297,6 +370,7 @@ module _ (program : Program) (well : IsWellFormed (program_form program)) (s : S
     object = f.x;
     found = f.found;
     exists = exists_still;
+    out = out_still;
     parted = parted cause end is;
     stored = end_stored cause end is;
     covered = tt;
@@ -305,7 +379,7 @@ module _ (program : Program) (well : IsWellFormed (program_form program)) (s : S
       ap (λ (home : Home). home.pool) (sym f.at_home),
       (
         f.access,
-        (f.x, f.found, f.of_access),
+        (f.x, f.found, f.of_access, out_still),
         r.came,
         inr (record {
           rooms = f.rooms;
@@ -328,6 +402,7 @@ module _ (program : Program) (well : IsWellFormed (program_form program)) (s : S
         object = f.x;
         found = f.found;
         exists = exists_still;
+        out = out_still;
         parted = parted cause end is;
         stored = end_stored cause end is;
         covered = subst (λ (t : ℕ). IsCovered own.implicit own.program (Freeing r.number) t) (sym f.of_access) r.covered;
@@ -353,6 +428,7 @@ module _ (program : Program) (well : IsWellFormed (program_form program)) (s : S
         object = f.x;
         found = f.found;
         exists = exists_still;
+        out = out_still;
         parted = parted cause end is;
         stored = end_stored cause end is;
         covered = subst (λ (t : ℕ). IsCovered own.implicit own.program (Freeing r.number) t) (sym f.of_access) r.covered;
@@ -512,7 +588,7 @@ module _ (program : Program) (well : IsWellFormed (program_form program)) (s : S
     making_treats : TreatsBy own (Names f.object) (begins Creation done) f.tasks f.after s.heap f.places b.operands f.lower
     making_treats = (
       inr (named_here r.named, is_made, names_by f.after r.room r.to),
-      (own_stored (begins Creation done) is, λ e raises. making_undone own f.object f.access f.after s.heap f.places f.lower making (f.x, f.found, f.of_access) e raises),
+      (own_stored (begins Creation done) is, (λ e raises. making_undone own f.object f.access f.after s.heap f.places f.lower making (f.x, f.found, f.of_access, out_still) e raises), out_here),
     )
 
   stores_next : (t : ℕ) (k : Control) (rooms : Rooms) (holds : Holds) → StoresInto own f.object f.access t k rooms holds → StoresBehind own s.heap t k rooms holds
@@ -572,7 +648,7 @@ module _ (program : Program) (well : IsWellFormed (program_form program)) (s : S
   treats_by (begins Creation done) is (inl (none_also, r)) =
       let b = beginning done is r in (
         inl b,
-        (own_stored (begins Creation done) is, λ e raises. beginning_undone own (Names f.object) f.after s.heap f.places f.lower b e raises),
+        (own_stored (begins Creation done) is, (λ e raises. beginning_undone own (Names f.object) f.after s.heap f.places f.lower b out_here e raises), out_here),
       )
   treats_by (begins Creation done) is (inr r) = making_treats done is r
   treats_by (begins Copy done) is r =
@@ -645,14 +721,15 @@ module _ (program : Program) (well : IsWellFormed (program_form program)) (s : S
 -- When the end of the body is next, what waits for the operation goes on, perhaps with an exception, which comes out of an Initialize alone.
 pub touching_ends :
     (program : Program) → IsWellFormed (program_form program) → (s : State) → (f : Pause program 0 s) → ((cause : Cause) → IsEnd cause → f.treatment ≡ ends cause → f.x.listed ≡ false)
+    → (is_there f.x.stage ≡ true → f.x.out ≡ true) → DepartsApart program s f
     → Ready (known_in program (running_procedure s) (origin program 0 s f ∷ f.suspensions)) s → Stands program (origin program 0 s f ∷ f.suspensions) s → running_procedure s ≡ Some f.number
     → (a b : Activation Value) (rest : List (Activation Value)) → s.activations ≡ a ∷ b ∷ rest → s.control ≡ Returns [] [] ∷ f.behind → s.masters ≡ f.lower
     → (mode : Mode) × MayBegin mode × (next program.types.items (body_forms program) s ≡ moves Quiet (record (behind_operation (b ∷ rest) f.behind f.lower s) { mode = mode }))
     × CrossesTo program f.suspensions s.heap Quiet (record (behind_operation (b ∷ rest) f.behind f.lower s) { mode = mode })
-touching_ends program well s f parted ready stands operates a b rest acts_so ends_now masters_are = (
+touching_ends program well s f parted out apart ready stands operates a b rest acts_so ends_now masters_are = (
   left_mode s.mode,
   left_begins s.mode,
-  goes_now program well s f parted ready stands operates a b rest acts_so ends_now masters_are,
-  crosses_by program well s f parted ready stands operates a b rest acts_so ends_now masters_are s.mode (places s) (operands s)
-      (ready_now program well s f parted ready stands operates a b rest acts_so ends_now masters_are),
+  goes_now program well s f parted out apart ready stands operates a b rest acts_so ends_now masters_are,
+  crosses_by program well s f parted out apart ready stands operates a b rest acts_so ends_now masters_are s.mode (places s) (operands s)
+      (ready_now program well s f parted out apart ready stands operates a b rest acts_so ends_now masters_are),
 )

@@ -15,10 +15,10 @@ use Rattle.ada_meaning.specs.Run.{Event}
 use Rattle.ada_typed.proofs.Kept.{behind_call, Each}
 use Rattle.ada_sound.specs.Agreement.{running_procedure}
 use Rattle.ada_sound.proofs.Alters.{Alters}
-use Rattle.ada_sound.proofs.Callers.{Suspension, callers_of, known_in}
+use Rattle.ada_sound.proofs.Callers.{AreCalls, Suspension, known_in}
 use Rattle.ada_sound.proofs.Allowance.{Allowance, allowance_of}
 use Rattle.ada_sound.proofs.FrugalControl.{Frugally, GoesFrugally}
-use Rattle.ada_sound.proofs.Invariant.{Control, EndsWell, Fine, IsAwaited, Stepped, under_in}
+use Rattle.ada_sound.proofs.Invariant.{Control, EndsWell, Fine, IsAwaited, Stepped}
 use Rattle.ada_sound.proofs.Operates.{InOperation}
 use Rattle.ada_sound.proofs.Operating.{InBody, IsCalm}
 use Rattle.ada_sound.proofs.OperationStarts.{is_awaited}
@@ -33,11 +33,11 @@ use Rattle.ada_sound.proofs.Waiting.{SameBody, stands_kept}
 abbrev pub InTouching : Program → List Object → Event → State → Type 0
 InTouching program before e after = InBody program (Touching program) before e after
 
--- It runs on, or the body of an operation begins that touches no storage, or what waits for it goes on, and in what waits behind that nothing is under way.
+-- It runs on, or the body of an operation begins that touches no storage, or what waits for it goes on, and what waits behind that waits for calls.
 abbrev pub Went : Program → List Object → Event → State → Type 0
 Went program before e after =
     InTouching program before e after
-    ⊎ (InOperation program before e after ⊎ ((c : Crosses program before e after) × IsCalm (behind_call after.control) × (under_in (callers_of program c.suspensions) ≡ [])))
+    ⊎ (InOperation program before e after ⊎ ((c : Crosses program before e after) × IsCalm (behind_call after.control) × (AreCalls c.suspensions)))
 
 -- So it is whatever comes next.
 abbrev pub GoesTouching : Program → State → Next → Type 0

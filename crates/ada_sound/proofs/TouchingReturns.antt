@@ -25,7 +25,7 @@ use Rattle.ada_typed.proofs.Kept.{behind_call, Each}
 use Rattle.ada_sound.proofs.Allowance.{Allowance}
 use Rattle.ada_sound.proofs.Alters.{alters_same}
 use Rattle.ada_sound.proofs.CallBegins.{placed_in}
-use Rattle.ada_sound.proofs.Callers.{Suspension, known_in, Stands, AreOf}
+use Rattle.ada_sound.proofs.Callers.{AreOf, IsCall, Stands, Suspension, known_in, none_awaits}
 use Rattle.ada_sound.proofs.FrugalControl.{Frugal, FrugalLeads, MayBegin, frugal_ends, frugal_returns, none_operated, operated_in, operated_on, operated_shorter}
 use Rattle.ada_sound.proofs.Invariant.{Control, GoesOn, IsAwaited, Ready, Roomed, Rooms, Working, below}
 use Rattle.ada_sound.proofs.Operating.{IsCalm, behind_operation}
@@ -33,8 +33,8 @@ use Rattle.ada_sound.proofs.OperationStarts.{is_awaited}
 use Rattle.ada_sound.proofs.Pauses.{AllWatched, inner_on, pause_on}
 use Rattle.ada_sound.proofs.Returns.{CrossesTo, crosses_to, same_control, left_to, resumed_in, behind_call as behind_mode, behind_frames, behind_body}
 use Rattle.ada_sound.proofs.Grounds.{Grounds}
-use Rattle.ada_sound.proofs.Touching.{AreInner, IsCall, IsOperation, Pause, Touching, Watched, operated_among, origin}
-use Rattle.ada_sound.proofs.TouchingEnds.{touching_ends}
+use Rattle.ada_sound.proofs.Touching.{AreInner, IsOperation, Pause, Touching, Watched, operated_among, origin}
+use Rattle.ada_sound.proofs.TouchingEnds.{none_departs, touching_ends, touching_out}
 use Rattle.ada_sound.proofs.TouchingGoes.{InTouching, Went, behind_it, none_end, operands_deeper, outermost, thrifty, touching_on, with_parts}
 use Rattle.ada_sound.proofs.TouchingStands.{IsAmong, later_among, operated_is, operated_once, touching_unlisted}
 use Rattle.ada_sound.proofs.TouchingWatched.{AllGoOnInside, all_watched, watched_stays}
@@ -221,7 +221,8 @@ module _ (program : Program) (a : Activation Value) (k : Control) (s : State) (m
             let next_is : ending.control ≡ Returns [] [] ∷ pause.behind = last_end actuals references k pause.behind gave.0 gave.1 control in
             let masters_are : ending.masters ≡ pause.lower = left_masters g (gs ++ waiting) w.rooms w.holds w.roomed w.rest ∙ ap (λ (waits : Suspension). waits.masters) o.is in
             let all_are : g ∷ gs ++ waiting ≡ origin program 0 ending pause ∷ pause.suspensions = ap (λ (waits : Suspension). waits ∷ gs ++ waiting) o.is ∙ ap (λ (others : List Suspension). origin program 0 ending pause ∷ others) o.behind_it in
-            let ended = touching_ends program grounds.well ending pause (touching_unlisted program ending grounds pause next_is)
+            let ended = touching_ends program grounds.well ending pause (touching_unlisted program ending grounds pause next_is) (touching_out program ending grounds pause next_is)
+            (none_departs program ending pause frugal operation.behind (operated_in pause.behind ++ operated_among gs) o.upper operation.lower o.masters o.leads)
             (subst (λ (all : List Suspension). Ready (known_in program a.procedure all) ending) all_are ready) (subst (λ (all : List Suspension). Stands program all ending) all_are stands)
             o.runs a b rest refl next_is masters_are in
             goes_behind more inner_is stands control ended.0 ended.1 ended.2 ended.3
@@ -271,7 +272,8 @@ module _ (program : Program) (a : Activation Value) (k : Control) (s : State) (m
           let next_is : ending.control ≡ Returns [] [] ∷ operation.behind = last_end actuals references k operation.behind end.0 end.1 control in
           let masters_are : ending.masters ≡ operation.lower = f.within.frugal.masters ∙ ap (λ (upper : List Master). upper ++ operation.lower) end.2 in
           let all_are : f.suspensions ≡ waiting = f.within.are ∙ ap (λ (inner : List Suspension). inner ++ waiting) none in
-          let ended = touching_ends program grounds.well ending pause (touching_unlisted program ending grounds pause next_is)
+          let ended = touching_ends program grounds.well ending pause (touching_unlisted program ending grounds pause next_is) (touching_out program ending grounds pause next_is)
+          (λ departing awaits. none_awaits program operation.suspensions f.within.settled awaits)
           (subst (λ (all : List Suspension). Ready (known_in program a.procedure all) ending) all_are f.ready) (subst (λ (all : List Suspension). Stands program all ending) all_are f.stands)
           (subst (λ (inner : List Suspension). Inner a.procedure 0 inner) none f.within.within) a b rest refl next_is masters_are in
           waits_on (record (behind_operation (b ∷ rest) operation.behind operation.lower ending) { mode = ended.0 }) ended.2 ended.3 refl

@@ -46,7 +46,7 @@ use Rattle.ada_sound.specs.Agreement.{running_procedure}
 use Rattle.ada_sound.specs.Always.{SparesOwn}
 use Rattle.ada_sound.proofs.BegunOutside.{begun_outside, owned_behind, owned_further}
 use Rattle.ada_sound.proofs.Below.{either_one}
-use Rattle.ada_sound.proofs.Callers.{Suspension, callers_of, known_in, Stands}
+use Rattle.ada_sound.proofs.Callers.{Suspension, callers_of, known_in, none_under, Stands}
 use Rattle.ada_scopes.specs.Scopes.{is_innermost}
 use Rattle.ada_sound.proofs.Fits.{IsOwnedAmong, IsOwnedOutside, IsReferred, Outsiders, Reference, referred_behind, referred_first}
 use Rattle.ada_sound.proofs.FreesCovered.{frees_among}
@@ -61,7 +61,7 @@ use Rattle.ada_sound.proofs.Operating.{IsCalm, WaitsFor}
 use Rattle.ada_sound.proofs.Returns.{same_types}
 use Rattle.ada_sound.proofs.SparesOwn.{spares_end}
 use Rattle.ada_sound.proofs.Standing.{AllStand, FinalizesBy, FinalizesIn, FreesAmong}
-use Rattle.ada_sound.proofs.Stored.{IsUnder}
+use Rattle.ada_sound.proofs.Stored.{IsUnder, listed_out}
 use Rattle.ada_sound.proofs.Touching.{AreInner, CoversBy, IsOperation, Pause, Rests, RestsAsOwned, RestsAtEnd, RestsBy, StoresInto, Watch, Within, operated_among, origin, under_way}
 use Rattle.ada_sound.proofs.TouchingRests.{IsEnd}
 
@@ -719,7 +719,7 @@ module _ (program : Program) (s : State) (grounds : Grounds program s) (gs : Lis
   under_outermost o under =
       elim (either_one (under_way outermost.treatment outermost.object) (under_in (callers_of program outermost.suspensions)) o under) [
         | inl here ↦ here
-        | inr later ↦ absurd (subst (λ (none : List Id). IsUnder none o) w.settled later)
+        | inr later ↦ absurd (subst (λ (none : List Id). IsUnder none o) (none_under program outermost.suspensions w.settled) later)
       ]
 
   -- No object that the running body may free is under way.
@@ -729,9 +729,6 @@ module _ (program : Program) (s : State) (grounds : Grounds program s) (gs : Lis
       none_in program grounds.spares_own s thrifty outermost.behind outermost.lower (running_procedure s) 0 outermost.number behind_it w.inner w.within waiting o x found so.0 so.1
       (λ covered there. under_not program grounds.spares_own s (length w.inner) outermost o x found (under_outermost o there) covered so.0)
       (subst (λ (all : List Suspension). IsUnder (under_in (callers_of program all)) o) w.are under)
-
-  pub none_is_under : NoneIsUnder (may_free program s) (under_in (callers_of program gs)) s.heap
-  none_is_under o x under found = false_from_ne_true (may_free program s x.cell.access) (λ may. not_freed o x under found may)
 
   -- In front of what waits for the outermost operation, nothing of another object begins.
   waits_begin : (v : Value) → (v ≢ Names outermost.object) → (treatment : Treatment) → WaitsFor form.types outermost.object outermost.of treatment outermost.tasks outermost.after outermost.behind → NothingBegins v outermost.behind
@@ -810,36 +807,41 @@ module _ (program : Program) (s : State) (grounds : Grounds program s) (gs : Lis
 
   -- Nor does one run of an object in the master that is left: the objects whose operations run lie in outer ones.
   module _ (low : NamedBelow (outers (known_in program (running_procedure s) gs)) s.heap s.masters) where
-    referred_out : (o : Id) (x : Object) → object_at s.heap o ≡ Some x → is_innermost s.masters x.cell.home.item ≡ true
+    referred_out : (o : Id) (x : Object) → object_at s.heap o ≡ Some x → x.out ≡ true → is_innermost s.masters x.cell.home.item ≡ true
         → (t : ℕ) → IsReferred (referenced_in (callers_of program (w.inner ++ behind_it))) o t → ⊥
-    referred_out o x found inner t is = low.1 o t x (subst (λ (all : List Suspension). IsReferred (referenced_in (callers_of program all)) o t) (sym w.are) is) found inner
+    referred_out o x found out inner t is = low.1 o t x (subst (λ (all : List Suspension). IsReferred (referenced_in (callers_of program all)) o t) (sym w.are) is) found out inner
 
-    outermost_out : (o : Id) (x : Object) → object_at s.heap o ≡ Some x → is_innermost s.masters x.cell.home.item ≡ true → Names o ≢ Names outermost.object
-    outermost_out o x found inner same =
+    outermost_out : (o : Id) (x : Object) → object_at s.heap o ≡ Some x → x.out ≡ true → is_innermost s.masters x.cell.home.item ≡ true → Names o ≢ Names outermost.object
+    outermost_out o x found out inner same =
         let one : outermost.object ≡ o = cc same in
-        referred_out o x found inner outermost.access
+        referred_out o x found out inner outermost.access
         (others_referred program grounds.spares_own s thrifty outermost.behind outermost.lower behind_it w.inner o outermost.access (inl (one, refl)))
 
-    operated_out : (o : Id) (x : Object) → object_at s.heap o ≡ Some x → is_innermost s.masters x.cell.home.item ≡ true → IsAmong (Names o) (operated_among w.inner) → ⊥
-    operated_out o x found inner among =
+    operated_out : (o : Id) (x : Object) → object_at s.heap o ≡ Some x → x.out ≡ true → is_innermost s.masters x.cell.home.item ≡ true → IsAmong (Names o) (operated_among w.inner) → ⊥
+    operated_out o x found out inner among =
         let is = operated_referred program grounds.spares_own s thrifty outermost.behind outermost.lower (running_procedure s) 0 (Some outermost.number) behind_it
         w.inner w.within o among in
-        referred_out o x found inner is.0 is.1
+        referred_out o x found out inner is.0 is.1
 
-    inner_alone : begins_first s.control ≡ false → (o : Id) (x : Object) → object_at s.heap o ≡ Some x → x.listed ≡ true → is_innermost s.masters x.cell.home.item ≡ true
+    inner_alone : begins_first s.control ≡ false → (o : Id) (x : Object) → object_at s.heap o ≡ Some x → x.listed ≡ true → x.out ≡ true → is_innermost s.masters x.cell.home.item ≡ true
         → NoOperationRunsOn (Names o) s.control
-    inner_alone first o x found listed inner =
-        grounds.unrun o x found listed (begins_nothing first (Names o) (outermost_out o x found inner) (operated_out o x found inner))
+    inner_alone first o x found listed out inner =
+        grounds.unrun o x found listed (begins_nothing first (Names o) (outermost_out o x found out inner) (operated_out o x found out inner))
 
   pub left_alone :
-      ((left : Mode) (j : Control) → s.control ≡ frame.Leaves left ∷ j → NamedBelow (outers (known_in program (running_procedure s) gs)) s.heap s.masters)
+      Ready (known_in program (running_procedure s) gs) s → s.mode ≡ Running
+      → ((left : Mode) (j : Control) → s.control ≡ frame.Leaves left ∷ j → NamedBelow (outers (known_in program (running_procedure s) gs)) s.heap s.masters)
       → LeftAlone s.heap s.masters s.control
-  left_alone low = by s.control refl
+  left_alone ready runs low = by s.control refl
     where
+      -- The words of an object in its collection are out.
+      out_of : (left : Mode) (j : Control) → s.control ≡ frame.Leaves left ∷ j → (o : Id) (x : Object) → object_at s.heap o ≡ Some x → x.listed ≡ true → x.out ≡ true
+      out_of left j is o x found listed = let parting = rw (runs, is) at ready.1 in listed_out o x found listed parting.stored
+
       by : (k : Control) → s.control ≡ k → LeftAlone s.heap s.masters k
       by [] is = tt
       by (frame.Leaves left ∷ j) is =
-          λ o x found listed inner. subst (NoOperationRunsOn (Names o)) is (inner_alone (low left j is) (ap begins_first is) o x found listed inner)
+          λ o x found listed inner. subst (NoOperationRunsOn (Names o)) is (inner_alone (low left j is) (ap begins_first is) o x found listed (out_of left j is o x found listed) inner)
       by (f ∷ j) is = tt
 
   -- An operation runs behind the call of the running body: the outermost one.
@@ -849,6 +851,11 @@ module _ (program : Program) (s : State) (grounds : Grounds program s) (gs : Lis
 
   pub touching_runs : IsCalm (behind_call s.control) → ⊥
   touching_runs calm = waits_operated outermost.treatment outermost.awaited (frugal_calm thrifty outermost.behind (operated_among w.inner) s.mode s.control w.frugal.upper calm w.frugal.frugally)
+
+  -- So no object that is under way, or has gone with its collection, is one that the running body may free.
+  pub none_is_under : NoneIsUnder (may_free program s) (under_in (callers_of program gs)) s.heap
+  none_is_under o x (inl under) found = false_from_ne_true (may_free program s x.cell.access) (λ may. not_freed o x under found may)
+  none_is_under o x (inr gone) found = (grounds.departed o x gone).unfreed touching_runs
 
   -- Each object that may be freed, and is not owned outside, stands.
   stand : begins_first s.control ≡ false → (forms : List TypeForm) → AllStand (may_free program s) forms outer s.heap

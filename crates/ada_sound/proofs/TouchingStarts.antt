@@ -1,7 +1,7 @@
 -- The treatment of an object calls an operation that touches storage: its body begins in a sound state (7.6, 7.6.1), where no operation runs, or inside another
 -- one, in which the object is freed, allocated, declared or undone, or its master is left (13.11.2, 4.8, 3.3.1, 7.6.1).
 
-use Rattle.std.proofs.Common.{◌≡◌, ◌≢◌, ℕ, Bool, true, false, not, ◌&&◌, ◌⊎◌, inl, inr, List, ◌∷◌, refl, sym, ap, subst, ◌∙◌, []}
+use Rattle.std.proofs.Common.{◌≡◌, ◌≢◌, ℕ, Bool, true, false, ◌⊎◌, inl, inr, List, ◌∷◌, refl, sym, ap, subst, ◌∙◌, []}
 use Rattle.std.specs.Prelude.{Option, Some, None}
 use Rattle.std.specs.List.{slice_get}
 use Rattle.std.specs.Option.{option_map}
@@ -16,7 +16,7 @@ use Rattle.ada_program.specs.declared.program.Program.{Program}
 use Rattle.ada_program.specs.Controlled.{operations_of}
 use Rattle.ada_program.specs.ProgramForm.{TypeForm, BodyForm, ProgramForm, program_form, body_forms, seen_by, seen_in}
 use Rattle.ada_program.specs.WellFormed.{finalization_of, is_access, variable_kind, object_named, IsWellFormed}
-use Rattle.ada_quiet.specs.Bare.{collections_in_order, has_bare_objects}
+use Rattle.ada_quiet.specs.Bare.{has_bare_objects}
 use Rattle.ada_quiet.specs.Frugal.{is_frugal_body, thrift_of}
 use Rattle.ada_quiet.specs.Idle.{makes_parts}
 use Rattle.ada_quiet.specs.InUse.{may_be_frugal, operations_may_be_called, tracks_nothing}
@@ -44,25 +44,26 @@ use Rattle.ada_typed.proofs.Bodies.{seen_as}
 use Rattle.ada_typed.proofs.Control as typed
 use Rattle.ada_typed.proofs.Kept.{behind_call}
 use Rattle.ada_typed.proofs.Overridings.{OperationFor, beginning_for, ending_for}
+use Rattle.ada_sound.proofs.Ahead.{ahead_in}
 use Rattle.ada_sound.proofs.Allowance.{allowance_of, body_thrifty}
 use Rattle.ada_sound.proofs.Alters.{Alters}
-use Rattle.ada_sound.proofs.Callers.{Suspension, known_in, Stands, callers_of}
+use Rattle.ada_sound.proofs.Callers.{AreCalls, Suspension, known_in, Stands, callers_of}
 use Rattle.ada_sound.proofs.FrugalControl.{Frugally, IsEnded, IsLeft, frugal_starts}
-use Rattle.ada_sound.proofs.Touching.{AdjustsBy, CoversBy, Enters, Touching, origin}
+use Rattle.ada_sound.proofs.Touching.{AdjustsBy, AreAround, CoversBy, Enters, Touching, departs_by, origin}
 use Rattle.ada_sound.proofs.TouchingCopies.{Entered, adjusts_free, assigned_enters, declared_enters}
 use Rattle.ada_sound.proofs.Trackers.{touches_apart}
 use Rattle.ada_sound.proofs.TouchingBegins.{Begun, IsAlone, alone, touching_begins}
 use Rattle.ada_sound.proofs.TouchingRests.{IsEnd, assigns_by, at_start, ends_by}
 use Rattle.ada_sound.proofs.Fits.{IsWithin, access_is}
 use Rattle.ada_sound.proofs.AssignedParts.{treated_frees_of, IsAssignedBehind, IsStartOrEnd}
-use Rattle.ada_sound.proofs.BareObjects.{allocated_is_bare, operable_is_not_bare}
+use Rattle.ada_sound.proofs.BareObjects.{operable_is_not_bare}
 use Rattle.ada_sound.proofs.QuietOperations.{AdjustsCopy, MayTouch, TouchesStorage}
 use Rattle.ada_sound.proofs.CalmObjects.{calm_finalize, calm_initialize}
 use Rattle.ada_quiet.specs.Calm.{are_calm_in}
 use Rattle.ada_sound.proofs.Items.{Houses}
 use Rattle.ada_sound.proofs.FrugalUseEnds.{ends_free, ends_in_starts}
 use Rattle.ada_sound.proofs.OperationsLet.{touches_let}
-use Rattle.ada_sound.proofs.Invariant.{Control, CopiesBehind, CoveredIn, EndsTo, IsCopied, Known, Rooms, TreatsBy, body_among, under_in, LiesAmong}
+use Rattle.ada_sound.proofs.Invariant.{Control, CopiesBehind, CoveredIn, EndsTo, IsCopied, Known, OneAwaits, Rooms, TreatsBy, body_among, departs, departs_next, innermost, LiesAmong}
 use Rattle.ada_sound.proofs.Operated.{OperatedAs}
 use Rattle.ada_sound.proofs.Operating.{IsCalled, IsCalm, lets_out, WaitsFor}
 use Rattle.ada_sound.proofs.OperationBegins.{formal_holds, formal_within}
@@ -147,7 +148,8 @@ module _ (program : Program) (a : Activation Value) (rest : List (Activation Val
   IsOperated by object of = OperatedAs p.types v treatment (cells_of s.heap) k by object of
 
   -- The body of an operation begins.
-  module _ (whole : State) (same : whole.masters ≡ s.masters) (grounds : Grounds program whole) (lone : IsLoneBehind v treatment k) (stands : Stands program gs (record s { activations = a ∷ rest })) where
+  module _ (whole : State) (same : whole.masters ≡ s.masters) (grounds : Grounds program whole) (lone : IsLoneBehind v treatment k) (stands : Stands program gs (record s { activations = a ∷ rest }))
+      (departed : departs_by treatment (departs (ahead_in p) (innermost s.masters)) k ≡ false → AreAround s.heap (OneAwaits (callers_of program gs))) where
     -- Where a record with controlled parts is assigned to, no object ends in which such a record lies.
     spares_copied : (access t : ℕ) → IsCopied known t → LiesAmong known access t → is_access known.program.types access ≡ true → assignment_frees known.implicit access t ≡ true → ⊥
     spares_copied access t (f, is, limited) (first, part, lies) accessed freed =
@@ -179,42 +181,37 @@ module _ (program : Program) (a : Activation Value) (rest : List (Activation Val
       goes_ahead (declared y) houses fits = absurd houses
       goes_ahead (record_object t) houses fits = refl
       goes_ahead (storage_pool declaration number) houses fits = absurd houses
-      goes_ahead (collection t pool) houses fits = by (collections_in_order p) refl
-        where
-          parted : has_bare_objects p.types t ≡ false
-          parted =
-              subst (λ (types : List TypeForm). has_bare_objects types t ≡ false) (same_types a.procedure p)
-              (subst (λ (access : ℕ). has_bare_objects known.program.types access ≡ false) (sym houses.0) not_bare)
-
-          of_access : is_access p.types t ≡ true
-          of_access = subst (λ (types : List TypeForm). is_access types t ≡ true) (same_types a.procedure p) fits
-
-          other : are_calm_in p t ≡ false
-          other = subst (λ (access : ℕ). are_calm_in p access ≡ false) (sym houses.0) not_calm
-
-          by : (b : Bool) → collections_in_order p ≡ b → (collections_in_order p && not (are_calm_in p t)) ≡ true
-          by true allocates = rw (allocates, other) refl
-          by false none = let bare = allocated_is_bare program grounds.well may none t of_access in absurd (cc (bare, parted))
+      goes_ahead (collection t pool) houses fits =
+          let other : are_calm_in p t ≡ false = subst (λ (access : ℕ). are_calm_in p access ≡ false) (sym houses.0) not_calm in
+          rw other refl
 
       -- An operation may be called for it that touches storage.
       touches : known.touches x.cell.access ≡ true
       touches = rw (may, made, not_calm) refl
 
-      ends_for : (cause : Cause) → IsEnd cause → IsLoneEnd v k → EndsTo known (Names o) k heap a.places s.masters → Enters known (ends cause) o x k heap a.places a.operands s.masters
-      ends_for cause end alone treats =
-          ends_by known o x heap found is_of a.places a.operands s.masters not_bare fits_here goes_ahead touches (ends_in_starts p) cause end k treats
-          (λ w behind at. subst (λ (u : Value). NothingBegins u behind) named (alone w behind at))
+      -- What has departed has an operation around it.
+      abbrev Around : Type 0
+      Around = AreAround heap (OneAwaits (callers_of program gs))
 
-      enters : (by : Treatment) (left : List Task) → IsLoneBehind v by k → IsStartOrEnd by → TreatsBy known (Names o) by left k heap a.places a.operands s.masters → Enters known by o x k heap a.places a.operands s.masters
-      enters (begins Creation done) left alone may' treats = at_start known o x heap found is_of a.places a.operands s.masters not_bare fits_here touches done left k treats
-      enters (begins Copy done) left alone may' treats = absurd may'
-      enters (begins (Adjustment n) done) left alone may' treats = absurd may'
-      enters (ends (Leaving m item)) left alone may' treats = ends_for (Leaving m item) tt alone treats
-      enters (ends (Freeing number)) left alone may' treats = ends_for (Freeing number) tt alone treats
-      enters (ends (Assigning number)) left alone may' treats =
+      -- Such collections of the master are left.
+      abbrev departing : Bool
+      departing = departs (ahead_in p) (innermost s.masters)
+
+      ends_for : (cause : Cause) → IsEnd cause → IsLoneEnd v k → (departs_next departing k ≡ false → Around) → EndsTo known (Names o) k heap a.places s.masters → Enters known (ends cause) o x k heap a.places a.operands s.masters
+      ends_for cause end alone around treats =
+          ends_by known o x heap found is_of a.places a.operands s.masters not_bare fits_here goes_ahead touches (ends_in_starts p) cause end k treats
+          (λ w behind at. subst (λ (u : Value). NothingBegins u behind) named (alone w behind at)) around
+
+      enters : (by : Treatment) (left : List Task) → IsLoneBehind v by k → IsStartOrEnd by → (departs_by by departing k ≡ false → Around) → TreatsBy known (Names o) by left k heap a.places a.operands s.masters → Enters known by o x k heap a.places a.operands s.masters
+      enters (begins Creation done) left alone may' around treats = at_start known o x heap found is_of a.places a.operands s.masters not_bare fits_here touches (around refl) done left k treats
+      enters (begins Copy done) left alone may' around treats = absurd may'
+      enters (begins (Adjustment n) done) left alone may' around treats = absurd may'
+      enters (ends (Leaving m item)) left alone may' around treats = ends_for (Leaving m item) tt alone around treats
+      enters (ends (Freeing number)) left alone may' around treats = ends_for (Freeing number) tt alone around treats
+      enters (ends (Assigning number)) left alone may' around treats =
           assigns_by known o x heap found is_of a.places a.operands s.masters not_bare fits_here number spares_copied k treats
-          (λ first t behind at. subst (λ (u : Value). AdjustsAlone u behind) named (alone first t behind at))
-      enters (ends (Undoing number)) left alone may' treats = ends_for (Undoing number) tt alone treats
+          (λ first t behind at. subst (λ (u : Value). AdjustsAlone u behind) named (alone first t behind at)) around
+      enters (ends (Undoing number)) left alone may' around treats = ends_for (Undoing number) tt alone around treats
 
     -- The object is not calm: for calm ones an Initialize is plain, and a Finalize quiet.
     other_object : (access of part number : ℕ) (b : BodyForm) (by : Treatment) → IsOperable p.types access of part → IsStartOrEnd by → IsCalled (operations_of program.types.items of) by number
@@ -257,11 +254,17 @@ module _ (program : Program) (a : Activation Value) (rest : List (Activation Val
       abbrev EnteredAs : Treatment → Type 0
       EnteredAs by = Entered program known by c.number c.o c.x k c.heap a.places a.operands s.masters c.tasks
 
+      -- What has departed has an operation around it, but where such collections are left.
+      around_by : (by : Treatment) → c.treatment ≡ by → departs_by by (departs (ahead_in p) (innermost s.masters)) k ≡ false → AreAround c.heap (OneAwaits (callers_of program gs))
+      around_by by is none q y gone =
+          let before = c.still q y gone in
+          departed (subst (λ (way : Treatment). departs_by way (departs (ahead_in p) (innermost s.masters)) k ≡ false) (sym is ∙ c.operated.0) none) q before.0 before.1
+
       -- It initializes or finalizes.
       starts_or_ends : IsStartOrEnd c.treatment → EnteredAs c.treatment
       starts_or_ends start =
           let not_calm : are_calm_in p c.x.cell.access ≡ false = rw of_type (other_object c.operated.1.0 c.of c.operated.1.1 c.number c.b c.treatment c.operated.1.3 start c.called c.there stores) in
-          let at = enters may made c.o c.x c.heap c.operated.3 c.found (access_is c.heap c.o c.x c.found (live_there c.x.stage c.live)) parted not_calm c.treatment c.tasks (rw c.operated.0 lone) start c.treats in
+          let at = enters may made c.o c.x c.heap c.operated.3 c.found (access_is c.heap c.o c.x c.found (live_there c.x.stage c.live)) parted not_calm c.treatment c.tasks (rw c.operated.0 lone) start (around_by c.treatment refl) c.treats in
           record {
             at = at;
             adjusts = none_adjusts known c.treatment c.x.cell.access c.tasks k at.rooms at.holds start;
@@ -275,11 +278,11 @@ module _ (program : Program) (a : Activation Value) (rest : List (Activation Val
       adjusts_copy nothing (begins Creation done) is copies = absurd copies
       adjusts_copy nothing (begins Copy done) is copies =
           let part = c.adjusts Copy done is tt in
-          declared_enters program grounds.well nothing a.procedure gs c.o c.x c.heap c.found a.places a.operands s.masters k parted c.of part.0 c.tasks part.1 done c.number c.b c.there
+          declared_enters program grounds.well nothing a.procedure gs c.o c.x c.heap c.found a.places a.operands s.masters k parted c.of part.0 c.tasks part.1 (around_by (begins Copy done) is refl) done c.number c.b c.there
           (subst (λ (way : Treatment). IsCalled (operations_of program.types.items c.of) way c.number) is c.called)
       adjusts_copy nothing (begins (Adjustment n) done) is copies =
           let part = c.adjusts (Adjustment n) done is tt in
-          assigned_enters program grounds.well nothing a.procedure gs c.o c.x c.heap c.found a.places a.operands s.masters k parted c.of part.0 c.tasks part.1 n done c.number c.b c.there
+          assigned_enters program grounds.well nothing a.procedure gs c.o c.x c.heap c.found a.places a.operands s.masters k parted c.of part.0 c.tasks part.1 (around_by (begins (Adjustment n) done) is refl) n done c.number c.b c.there
           (subst (λ (way : Treatment). IsCalled (operations_of program.types.items c.of) way c.number) is c.called)
       adjusts_copy nothing (ends cause) is copies = absurd copies
 
@@ -373,7 +376,8 @@ module _ (program : Program) (a : Activation Value) (rest : List (Activation Val
       others_by (ends (Undoing number)) left one treats = ended_others (Undoing number) one k refl treats
 
     -- An operation begins there.
-    module _ (same : whole.masters ≡ s.masters) (calm : IsCalm (behind_call k)) (settled : under_in (callers_of program gs) ≡ []) (stands : Stands program gs (record s { activations = a ∷ rest }))
+    module _ (same : whole.masters ≡ s.masters) (calm : IsCalm (behind_call k)) (settled : AreCalls gs) (stands : Stands program gs (record s { activations = a ∷ rest }))
+        (departed : departs_by treatment (departs (ahead_in p) (innermost s.masters)) k ≡ false → AreAround s.heap (OneAwaits (callers_of program gs)))
         (e : Event) (after : State) (c : Begins known a rest s program.types.items (body_forms program) k IsOperated e after) (touches : MayTouch p c.treatment) where
       -- Nothing begins of another object than the one that it is called for.
       pub untreated_outermost : (u : Value) → u ≢ Names c.o → NothingBegins u k
@@ -384,7 +388,7 @@ module _ (program : Program) (a : Activation Value) (rest : List (Activation Val
       -- Its body runs, as the outermost one.
       pub touching_outermost : may_be_frugal p ≡ true → is_frugal_body (thrift_of p) c.b ≡ true → TouchesStorage p c.treatment c.b → typed.Typed p after → Touching program after
       touching_outermost may frugal stores typing =
-          let started = begins_so whole same grounds lone_outermost stands (treats_in_use program whole grounds (Treats v treatment tasks ∷ k) is tt) (treats_made program whole grounds v treatment tasks k is) e after c touches may frugal stores typing in
+          let started = begins_so whole same grounds lone_outermost stands departed (treats_in_use program whole grounds (Treats v treatment tasks ∷ k) is tt) (treats_made program whole grounds v treatment tasks k is) e after c touches may frugal stores typing in
           let begun = started.0 in
           let waits : WaitsFor p.types c.o c.of c.treatment c.tasks k c.behind = subst (λ (types : List TypeForm). WaitsFor types c.o c.of c.treatment c.tasks k c.behind) (same_types a.procedure p) c.waits in
           let before = record s { activations = a ∷ rest; heap = c.heap; mode = Running; control = k } in

@@ -32,7 +32,7 @@ use Rattle.ada_sound.proofs.FreedInside.{IsFreedNext, freed_inside}
 use Rattle.ada_sound.proofs.FrugalControl.{Frugal, Frugally, GoesFrugally, is_return_first, none_operated, operated_in}
 use Rattle.ada_sound.proofs.FrugalSteps.{TreatsNothing, frugal_goes}
 use Rattle.ada_sound.proofs.Invariant.{CallsOn, Control, IsAwaited, Known, ReadyIn, Rooms, RunsOn, Working, outers}
-use Rattle.ada_sound.proofs.Pauses.{inner_on}
+use Rattle.ada_sound.proofs.Pauses.{inner_on, touching_awaits}
 use Rattle.ada_sound.proofs.Ready.{at_work}
 use Rattle.ada_sound.proofs.Returns.{CrossesTo}
 use Rattle.ada_sound.proofs.Sees.{reaches_in, may_call}
@@ -41,7 +41,7 @@ use Rattle.ada_sound.proofs.Steps as inside
 use Rattle.ada_sound.proofs.Touching.{Touching, operated_among}
 use Rattle.ada_sound.proofs.TouchingGoes.{GoesTouching, behind_it, operands_deeper, stays_next, still_on, thrifty, touching_on, with_parts}
 pub use Rattle.ada_sound.proofs.TouchingGoes.{InTouching, Went, GoesTouching}
-use Rattle.ada_sound.proofs.TouchingLeaves.{leaves_in_order, touching_leaves, touching_stays}
+use Rattle.ada_sound.proofs.TouchingLeaves.{leaves_well, touching_leaves, touching_stays}
 use Rattle.ada_sound.proofs.TouchingReturns.{body_ends}
 use Rattle.ada_sound.proofs.TouchingStands.{left_alone, listed_alone, none_is_under, touching_frees, touching_stands}
 use Rattle.ada_sound.proofs.TouchingTreats.{treats_step}
@@ -77,7 +77,7 @@ module _ (program : Program) (s : State) (f : Touching program s) (grounds : Gro
       (λ actuals references k is. absurd (let end = not_end in cc (rw is at end))) plain grounds.typed.inside
       (may_free program s) (touching_frees program s grounds f.suspensions f.ready)
       (λ runs first o x freed found listed may. listed_alone program s grounds f.suspensions w f.stands first o x found listed may (next_inside runs o freed)) grounds.unborn
-      (λ runs. left_alone program s grounds f.suspensions w f.stands (λ left j is. (touching_leaves program s grounds f runs left j is).1))
+      (λ runs. left_alone program s grounds f.suspensions w f.stands f.ready runs (λ left j is. (touching_leaves program s grounds f runs left j is).1))
 
   -- The end of no body is next.
   no_end : (k : Control) → IsAwaited k → s.control ≡ Returns [] [] ∷ k → ⊥
@@ -95,7 +95,7 @@ module _ (program : Program) (s : State) (f : Touching program s) (grounds : Gro
       (touching_frees program s grounds f.suspensions f.ready)
       (λ left behind runs at. (
       let leaves = touching_leaves program s grounds f runs left behind at in
-      (leaves.0, leaves.1, leaves_in_order program s grounds f left behind at)
+      (leaves.0, leaves.1, leaves_well program s grounds f left behind at)
       ))
       (touching_stays program s f)
       f.ready)
@@ -162,7 +162,7 @@ module _ (program : Program) (a : Activation Value) (k : Control) (s : State) (r
       let still = still_on program before f grounds (λ j awaited last. cc last) in
       let unawaited : IsAwaited k → ⊥ = runs_unawaited caller k works.rooms _ works.rest.1 in
       let waits = waiting program number b given k a rest gs s works in
-      let c = calls_to program number b given k a rest gs s works ready.rest.1 (inside.heap_typed (seen_in a.procedure (program_form program)) before grounds.typed.inside).1 stands
+      let c = calls_to program number b given k a rest gs s works ready.rest.1 (inside.heap_typed (seen_in a.procedure (program_form program)) before grounds.typed.inside).1 stands (λ o x gone. touching_awaits program gs before w)
       (runs_called program number b given k a gs s grounds.well grounds.obeys (called_apart program before number b given k refl grounds.obeys.0 grounds.apart) works stands.body ready.rest.1 rest stands) in
       inl (touching_on program before f (waits ∷ w.inner) Quiet _ (inl (
         (unawaited, refl),

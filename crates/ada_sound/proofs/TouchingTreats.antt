@@ -1,7 +1,7 @@
 -- An object that is freed or undone, or whose master is left, is finalized while an operation that touches storage is under way (7.6.1, 13.11.2), and one that
 -- is allocated or declared begins (4.8, 3.3.1): its operation begins, inside the other one, or what is left goes on.
 
-use Rattle.std.proofs.Common.{◌≡◌, ◌⊎◌, ℕ, true, List, [], ◌∷◌, ◌++◌, refl, sym, ap, subst, ◌∙◌, inl, inr, ◌+◌, arith, drop, length, suc}
+use Rattle.std.proofs.Common.{◌≡◌, ℕ, true, List, [], ◌∷◌, ◌++◌, refl, sym, ap, subst, ◌∙◌, inl, inr, ◌+◌, arith, drop, length, suc}
 use Rattle.std.specs.Prelude.{Option, Some, None}
 use Rattle.ada_parts.specs.Task.{Task}
 use Rattle.ada_program.specs.declared.program.Program.{Program}
@@ -33,13 +33,13 @@ use Rattle.ada_sound.proofs.Allowance.{Allowance, body_thrifty, is_thrifty_body}
 use Rattle.ada_sound.specs.Agreement.{running_procedure}
 use Rattle.ada_sound.proofs.Alters.{Alters}
 use Rattle.ada_sound.proofs.Callers.{Suspension, known_in, Stands, AreOf}
-use Rattle.ada_sound.proofs.FrugalControl.{BeginsThere, EndsThere, LeavesThere, Frugal, Frugally, FrugalLeads, FrugalLeaves, FrugalOperated, IsInside, begun_leads, ends_leads, leaves_operated, frugal_starts_inside, operated_in, operated_on}
+use Rattle.ada_sound.proofs.FrugalControl.{BeginsThere, EndsThere, LeavesThere, Frugal, Frugally, FrugalOperated, IsInside, begun_leads, ends_leads, leaves_operated, frugal_starts_inside, operated_in, operated_on}
 use Rattle.ada_sound.proofs.FrugalSteps.{GoesOrBegins, IsTreated, treats_frugally}
 use Rattle.ada_sound.proofs.Inert.{inert_calls, stays_inert}
 use Rattle.ada_sound.proofs.Invariant.{Control, Known, Stepped}
 use Rattle.ada_sound.proofs.Operating.{PlainBody, WaitsFor, behind_operation}
 use Rattle.ada_sound.proofs.OperationBegins.{begins_operation}
-use Rattle.ada_sound.proofs.Pauses.{AllWatched, inner_on}
+use Rattle.ada_sound.proofs.Pauses.{AllWatched, inner_on, touching_awaits}
 use Rattle.ada_sound.proofs.QuietOperations.{AdjustsCopy, IsUsedAs, LetsNothingOut, MayTouch, TouchesStorage, used_as}
 use Rattle.ada_sound.proofs.CopiedOwners.{BeginsCopy}
 use Rattle.ada_sound.proofs.Ready.{running}
@@ -398,7 +398,7 @@ module _ (program : Program) (a : Activation Value) (rest : List (Activation Val
         begins_frugal touches may frugal_body stores =
             let uses = treats_in_use program whole grounds whole.control refl tt in
             let lone = lone_here treatment (inside_so treatment called_here) in
-            inl (begins_inside (touching_starts program a rest s k v treatment tasks f.suspensions whole refl grounds lone stands_here uses (treats_made program whole grounds v treatment tasks k refl) e after c touches may frugal_body stores typed_after) frugal_body)
+            inl (begins_inside (touching_starts program a rest s k v treatment tasks f.suspensions whole refl grounds lone stands_here (λ none q y gone. touching_awaits program f.suspensions whole f.within) uses (treats_made program whole grounds v treatment tasks k refl) e after c touches may frugal_body stores typed_after) frugal_body)
 
         begins_as : IsUsedAs p c.of c.number c.treatment c.b → Went program s.heap e after
         begins_as (inl plain) = begins_quiet plain

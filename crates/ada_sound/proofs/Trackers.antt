@@ -24,9 +24,8 @@ use Rattle.ada_program.specs.WellFormed.{IsWellFormed, finalization_in, has_oper
 use Rattle.ada_flow.specs.Flow.{is_owning_part, object_record, is_procedure, tracked_of, tracked_by_adjust, tracks_of}
 use Rattle.ada_flow.specs.Tracking.{no_tracks, tracks_behind, access_numbers, number_within}
 use Rattle.ada_quiet.specs.Apart.{is_this_one, is_adjust_of, is_tracker, body_calls_apart, overrides_apart, operations_apart, operations_stand_apart}
-use Rattle.ada_quiet.specs.Bare.{collections_in_order}
 use Rattle.ada_quiet.specs.Idle.{makes_parts, copies_parts}
-use Rattle.ada_quiet.specs.InUse.{leaves_access, tracks_nothing, uses_adjust, allocates_no_parts, may_be_frugal, uses_operations, operations_are_idle, operations_may_be_called, operations_are_in_use, is_copied_in_order, may_track, adjusts_nothing, operations_stand_in_order}
+use Rattle.ada_quiet.specs.InUse.{leaves_access, tracks_nothing, uses_adjust, may_be_frugal, uses_operations, operations_are_idle, operations_may_be_called, operations_are_in_use, is_copied_in_order, may_track, adjusts_nothing, operations_stand_in_order}
 use Rattle.ada_quiet.specs.Quiet.{has_access, is_of_access, operation_body}
 use Rattle.ada_quiet.specs.Calm.{names_no_trackers}
 use Rattle.ada_sound.proofs.OperationStarts.{apart}
@@ -88,12 +87,8 @@ module _ (p : ProgramForm) where
   names_none_too may =
       (apart (may_be_frugal p) (names_no_trackers p) (apart (may_be_frugal p && names_no_trackers p) (list_all (is_copied_in_order p.types) p.types) may).0).1
 
-  -- Where operations may be frugal, they stand apart.
-  pub apart_too : may_be_frugal p ≡ true → operations_stand_apart p ≡ true
-  apart_too may = (apart (allocates_no_parts p || collections_in_order p) (operations_stand_apart p) may).1
-
   pub stands_apart : may_track p ≡ true → operations_stand_apart p ≡ true
-  stands_apart may = apart_too (frugal_too may)
+  stands_apart may = frugal_too may
 
   -- What tracks components stands apart, and the components of each record stand in order.
   abbrev pub TracksApart : Type 0

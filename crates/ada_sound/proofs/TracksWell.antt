@@ -34,7 +34,7 @@ use Rattle.ada_sound.proofs.Returns.{same_types}
 use Rattle.ada_sound.proofs.Sees.{copies_in, allocates_in}
 use Rattle.ada_sound.proofs.Standing.{FreesAmong}
 use Rattle.ada_sound.proofs.Touched.{touches_in}
-use Rattle.ada_sound.proofs.Trackers.{TracksApart, TracksSafely, apart_too, nothing_adjusts}
+use Rattle.ada_sound.proofs.Trackers.{TracksApart, TracksSafely, nothing_adjusts}
 
 -- Where the components of each record stand in order, types are as a copy needs them.
 pub copied_in_order : (p : ProgramForm) → IsWellFormed p → list_all (is_copied_in_order p.types) p.types ≡ true → AreCopiedInOrder p.types
@@ -77,7 +77,7 @@ makes_apart p s apart' access items behind is = by (may_be_frugal p) refl
     by false never = refl
     by true may =
         and_right (makes_parts p) (not (are_calm_in p access))
-        (ap not (calm_if_bare p access (bare_next p s (apart_too p may) apart' access items behind is).0))
+        (ap not (calm_if_bare p access (bare_next p s may apart' access items behind is).0))
 
 -- Where operations may touch storage, and something creates an object with controlled parts, no component of a record that is freed in what is left to do names
 -- an object whose end reaches one in which such a component lies.

@@ -38,8 +38,8 @@ use Rattle.ada_owners.specs.Keeping.{IsThere}
 use Rattle.ada_owners.proofs.Kernel.{same_id}
 use Rattle.ada_owners.proofs.Objects.{at_other}
 use Rattle.ada_owners.proofs.Changes.{store_is}
-use Rattle.ada_sound.proofs.Objects.{set_here, set_twice}
-use Rattle.ada_sound.proofs.Stored.{stored_treated}
+use Rattle.ada_sound.proofs.Objects.{set_get, set_here, set_twice}
+use Rattle.ada_sound.proofs.Stored.{HasDeparted, stored_treated}
 use Rattle.ada_sound.proofs.Fits.{Fit, treated_fit, same_unnamed, gone_fit}
 use Rattle.ada_sound.proofs.Alters.{Alters, alters_same, alters_set}
 use Rattle.ada_owners.specs.Places.{is_there}
@@ -74,6 +74,18 @@ module _ (change : PartState → PartState) (part : ℕ) where
   alters_treated heap e v =
       changed_or_same (λ after. Alters heap e after) heap v (alters_same heap e)
       (λ o x is found. alters_set heap e o x (treated change part x) found (refl, refl, refl) (λ h. h) (λ h. inl h))
+
+  -- What has departed had done so before.
+  pub departed_before : (heap : List Object) (v : Value) (q : Id) (y : Object) → HasDeparted (on_object (treated change part) heap v) q y → (z : Object) × HasDeparted heap q z
+  departed_before heap v =
+      changed_or_same (λ after. (q : Id) (y : Object) → HasDeparted after q y → (z : Object) × HasDeparted heap q z) heap v (λ q y gone. (y, gone)) one
+    where
+      one : (o : Id) (x : Object) → v ≡ Names o → object_at heap o ≡ Some x → (q : Id) (y : Object) → HasDeparted (slice_set heap o.0 (treated change part x)) q y → (z : Object) × HasDeparted heap q z
+      one o x is found q y gone = by (set_get heap o.0 q.0 (treated change part x) y gone.found)
+        where
+          by : ((q.0 ≡ o.0) × (y ≡ treated change part x)) ⊎ ((q.0 ≢ o.0) × (slice_get heap q.0 ≡ Some y)) → (z : Object) × HasDeparted heap q z
+          by (inl here) = (x, record { found = rw (here.0) found; there = rw here.1 at gone.there; back = rw here.1 at gone.back })
+          by (inr other) = (y, record { found = other.1; there = gone.there; back = gone.back })
 
   module _ (heap : List Object) (o : Id) (x : Object) (found : object_at heap o ≡ Some x) where
     -- What is stored in an object is stored there as well once a part has changed.
@@ -131,10 +143,10 @@ module _ (change : PartState → PartState) (part : ℕ) where
       then_set places (GivesBack (Names p) cause pool ∷ k) r = (
         r.0,
         r.1,
-        behind_set known o x (treated change part x) heap found refl (Some o) (Some o) (λ w holder other. (other, other))
+        behind_set known o x (treated change part x) heap found refl (λ there. refl) (Some o) (Some o) (λ w holder other. (other, other))
             (λ objects held at spared holds f aside. (treated_fit change part o x at f, (same_unnamed objects o x at o aside.0 (treated change part x) refl (λ c. refl), aside.1)))
             (λ spared held holds f. gone_still heap o x (treated change part x) found (λ objects. Fit known.program.types known.program.variables (outers known) spared objects held holds) (gone_fit heap o x (treated change part x) found) f)
-            (under_set heap o x (treated change part x) found refl) (frees_set known heap o x (treated change part x) found refl) (λ w d holder other. named_set known heap o x (treated change part x) found refl w d other) cause x.cell.home.item places ms k
+            (under_set heap o x (treated change part x) found refl refl) (frees_set known heap o x (treated change part x) found refl) (λ w d holder other. named_set known heap o x (treated change part x) found refl w d other) cause x.cell.home.item places ms k
             (λ m item leaves going. ((λ spared holds f. treated_fit change part o x found f), λ unreferred. unreferred)) r.2,
       )
       then_set places (f ∷ k) r = absurd r
@@ -144,6 +156,7 @@ module _ (change : PartState → PartState) (part : ℕ) where
         object = treated change part x;
         found = set_here heap o.0 x (treated change part x) found;
         exists = rw one at e.exists;
+        out = rw one at e.out;
         parted = rw one at e.parted;
         stored = stored_treated change part o x found e.stored;
         covered = rw one at e.covered;
@@ -257,7 +270,7 @@ module _ (change : PartState → PartState) (part : ℕ) where
     treats_set : (v : Value) (treatment : Treatment) (tasks : List Task) (places operands : List Value) (k : Control) → v ≡ Names o → TreatsBy known v treatment tasks k heap places operands ms → TreatsBy known v treatment tasks k (slice_set heap o.0 (treated change part x)) places operands ms
     treats_set v (begins Creation done) tasks places operands k is r = (
       begun_set v places operands k is r.0,
-      rw is (undo_set known heap places ms o x (treated change part x) found refl (stored_treated change part o x found)
+      rw is (undo_set known heap places ms o x (treated change part x) found refl refl (stored_treated change part o x found)
           (λ holds f. gone_fit heap o x (treated change part x) found f) (λ holds f. treated_fit change part o x found f)
           (λ holds aside. (same_unnamed heap o x found o aside.0 (treated change part x) refl (λ c. refl), aside.1)) k (rw is at r.1)),
     )
@@ -368,6 +381,7 @@ pub record Begins (known : Known) (a : Activation Value) (rest : List (Activatio
   pub waits : WaitsFor known.program.types o of treatment tasks k behind
   pub treats : TreatsBy known (Names o) treatment tasks k heap a.places a.operands s.masters
   pub alters : Alters s.heap e heap
+  pub still : (q : Id) (y : Object) → HasDeparted heap q y → (z : Object) × HasDeparted s.heap q z
   pub tells : TellsNothing e
   pub begun : (by : Birth) (done : List parts.Part) → treatment ≡ begins by done → (heap ≡ s.heap) × (e ≡ Quiet)
   pub standing : (by : Birth) (done : List parts.Part) → treatment ≡ begins by done → BeginsPart o x place by done of tasks k behind
@@ -526,6 +540,7 @@ module _ (known : Known) (a : Activation Value) (rest : List (Activation Value))
         waits = (part, ap (λ (u : Value). frame.Awaits u by done of part tasks ∷ k) (there.names));
         treats = subst (λ (u : Value). TreatsBy known u (begins by done) tasks k s.heap a.places a.operands s.masters) (there.names) r;
         alters = alters_same s.heap Quiet;
+        still = λ q y gone. (y, gone);
         tells = tt;
         begun = λ birth before is. (refl, refl);
         standing = λ birth before is. part_stands by done of part tasks p state birth before is;
@@ -577,6 +592,7 @@ module _ (known : Known) (a : Activation Value) (rest : List (Activation Value))
         waits = (ap (λ (u : Value). frame.Confines ∷ treating u (ends cause) tasks k) (there.names), inside);
         treats = subst (λ (u : Value). TreatsBy known u (ends cause) tasks k (on_object (treated finalized_part part) s.heap v) a.places a.operands s.masters) (there.names) (treats_after cause part tasks r);
         alters = alters_treated finalized_part part s.heap _ v;
+        still = departed_before finalized_part part s.heap v;
         tells = tt;
         begun = λ birth before is. absurd (cc is);
         standing = λ birth before is. absurd (cc is);

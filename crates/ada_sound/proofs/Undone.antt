@@ -31,14 +31,14 @@ use Rattle.ada_owners.specs.Places.{access_in}
 use Rattle.ada_sound.proofs.Awaiting.{awaits_along, goes_along}
 use Rattle.ada_sound.proofs.Fits.{Fit, none_spared, weaker_fit, part_fit, beside_fit, gone_fit, same_access, same_unnamed}
 use Rattle.ada_sound.proofs.Alters.{alters_set}
-use Rattle.ada_sound.proofs.Invariant.{AwaitsIn, outers, below, Known, Control, Rooms, Roomed, To, By, Unaliased, IsAside, Freed, gone_in, Beginning, BeginsWell, IsMade, Making, UnderIs, ResumesTo, Ending, StartsTo, StartsRaise, UndoneTo, MayUndo, IsLive, Stepped, Fine, ways}
+use Rattle.ada_sound.proofs.Invariant.{AwaitsIn, outers, below, Known, Control, Rooms, Roomed, To, By, Unaliased, IsAside, Freed, gone_in, Beginning, BeginsWell, IsMade, Making, UnderIs, ResumesTo, Ending, StartsTo, StartsRaise, UndoneTo, MayUndo, IsLive, IsOut, Stepped, Fine, ways}
 use Rattle.ada_sound.proofs.Ready.{in_mode, treats_ready}
 use Rattle.ada_sound.proofs.Endings.{gone_still, under_set}
 use Rattle.ada_sound.proofs.Orderings.{as_good, good_to_lost}
 use Rattle.ada_sound.proofs.Values.{lost_here, read_other, same_or_not}
 
--- The object itself changes while it is initialized, and stays of its type: it may be undone still.
-module _ (known : Known) (heap : List Object) (places : List Value) (ms : List Master) (o : Id) (x y : Object) (found : object_at heap o ≡ Some x) (same : y.cell.access ≡ x.cell.access) (kept : Stored (outers known).under heap ms → Stored (outers known).under (slice_set heap o.0 y) ms) (goes : (holds : Holds) → Fit known.program.types known.program.variables (outers known) none_spared (slice_set heap o.0 (finished x)) places holds → Fit known.program.types known.program.variables (outers known) none_spared (slice_set heap o.0 (finished y)) places holds)
+-- The object itself changes while it is initialized, stays of its type, and its words are out still: it may be undone still.
+module _ (known : Known) (heap : List Object) (places : List Value) (ms : List Master) (o : Id) (x y : Object) (found : object_at heap o ≡ Some x) (same : y.cell.access ≡ x.cell.access) (outs : y.out ≡ x.out) (kept : Stored (outers known).under heap ms → Stored (outers known).under (slice_set heap o.0 y) ms) (goes : (holds : Holds) → Fit known.program.types known.program.variables (outers known) none_spared (slice_set heap o.0 (finished x)) places holds → Fit known.program.types known.program.variables (outers known) none_spared (slice_set heap o.0 (finished y)) places holds)
     (keeps : (holds : Holds) → Fit known.program.types known.program.variables (outers known) none_spared heap places holds → Fit known.program.types known.program.variables (outers known) none_spared (slice_set heap o.0 y) places holds)
     (apart : (holds : Holds) → IsAside known none_spared heap places holds (Some o) → IsAside known none_spared (slice_set heap o.0 y) places holds (Some o)) where
   still : object_at (slice_set heap o.0 y) o ≡ Some y
@@ -56,7 +56,7 @@ module _ (known : Known) (heap : List Object) (places : List Value) (ms : List M
         o,
         access,
         refl,
-        under_set heap o x y found same access (rw this at under),
+        under_set heap o x y found same outs access (rw this at under),
         inl (
           collected,
           record {
@@ -75,12 +75,18 @@ module _ (known : Known) (heap : List Object) (places : List Value) (ms : List M
         o,
         access,
         refl,
-        under_set heap o x y found same access (rw this at under),
+        under_set heap o x y found same outs access (rw this at under),
         inr (record { rooms = u.rooms; holds = u.holds; roomed = u.roomed; fit = keeps u.holds u.fit; aside = apart u.holds aside; rest = u.rest }),
       )
 
   pub undo_set : (k : Control) → MayUndo known (Names o) k heap places ms → MayUndo known (Names o) k (slice_set heap o.0 y) places ms
-  undo_set k may = (kept may.0, λ e raises. undone_set k e (may.1 e (raises_before e raises)))
+  undo_set k may = (kept may.0, (λ e raises. undone_set k e (may.1 e (raises_before e raises))), out_still)
+    where
+      out_still : IsOut (slice_set heap o.0 y) (Names o)
+      out_still p z is there =
+          let one : p ≡ o = cc is in
+          let z_is : z ≡ y = let at_p = there in let at_o = still in cc (one, at_p, at_o) in
+          rw z_is (outs ∙ may.2 o x refl found)
 
 -- It is initialized still: what is behind goes on.
 module _ (known : Known) (heap : List Object) (places : List Value) (ms : List Master) (o : Id) (x y : Object) (found : object_at heap o ≡ Some x) (same : y.cell.access ≡ x.cell.access) (looks : access_in (Some y) ≡ access_in (Some x)) (kept : Stored (outers known).under heap ms → Stored (outers known).under (slice_set heap o.0 y) ms)
@@ -146,8 +152,8 @@ lost_unaliased variables may holds x none y t of freed b = go (same_or_not y x)
     go (inr ne) = none y t of freed (rw (read_other holds x y hold.Lost hold.Lost ne) at b)
 
 -- A record object may be undone while it is initialized: its variable is not relied on then.
-pub beginning_undone : (known : Known) (v : Value) (k : Control) (heap : List Object) (places : List Value) (ms : List Master) → Beginning known v k heap places ms → (e : Exception) → StartsRaise known heap v e → UndoneTo known v k heap places ms e
-beginning_undone known v k heap places ms b e (p, z, is, there, raises) =
+pub beginning_undone : (known : Known) (v : Value) (k : Control) (heap : List Object) (places : List Value) (ms : List Master) → Beginning known v k heap places ms → IsOut heap v → (e : Exception) → StartsRaise known heap v e → UndoneTo known v k heap places ms e
+beginning_undone known v k heap places ms b out e (p, z, is, there, raises) =
     let lost = slice_set b.holds b.x hold.Lost in
     let names = b.is in
     let found = b.found in
@@ -156,7 +162,7 @@ beginning_undone known v k heap places ms b e (p, z, is, there, raises) =
       b.o,
       b.object.cell.access,
       b.is,
-      (b.object, b.found, refl),
+      (b.object, b.found, refl, out b.o b.object b.is b.found),
       inr (record {
         rooms = b.rooms;
         holds = lost;
@@ -169,11 +175,11 @@ beginning_undone known v k heap places ms b e (p, z, is, there, raises) =
 
 -- So may one that an allocator made: nothing relies on it.
 pub making_undone : (known : Known) (o : Id) (access : ℕ) (k : Control) (heap : List Object) (places : List Value) (ms : List Master) → Making known o access k heap places ms → UnderIs heap (Some o) access → (e : Exception) → StartsRaise known heap (Names o) e → UndoneTo known (Names o) k heap places ms e
-making_undone known o access k heap places ms m (y, found, of) e (p, z, is, there, raises) =
+making_undone known o access k heap places ms m (y, found, of, out) e (p, z, is, there, raises) =
     let this : p ≡ o = cc is in
     let one : z ≡ y = let at_o = there in cc (rw this at at_o, found) in
     let raised : list_any (is_same e) (known.implicit.start_raises access) ≡ true = rw (one, of) at raises in
-    (o, access, refl, (y, found, of), inr (record { rooms = m.rooms; holds = m.holds; roomed = m.roomed; fit = m.fit; aside = m.aside; rest = (m.undone e raised, m.well) }))
+    (o, access, refl, (y, found, of, out), inr (record { rooms = m.rooms; holds = m.holds; roomed = m.roomed; fit = m.fit; aside = m.aside; rest = (m.undone e raised, m.well) }))
 
 -- What fits before an object comes to be fits where it is gone again.
 module _ (known : Known) (heap : List Object) (words : _) (cell : Cell Value) where
@@ -185,7 +191,7 @@ module _ (known : Known) (heap : List Object) (words : _) (cell : Cell Value) wh
     record { 0 = length heap },
     cell.access,
     refl,
-    (new_object cell, get_new heap (new_object cell), refl),
+    (new_object cell, get_new heap (new_object cell), refl, refl),
     inl (
       collected,
       record {
@@ -199,10 +205,17 @@ module _ (known : Known) (heap : List Object) (words : _) (cell : Cell Value) wh
     ),
   )
 
+  -- The words of a new object are out.
+  pub new_is_out : IsOut (create heap words cell) (created heap words)
+  new_is_out p z is there =
+      let one : p ≡ record { 0 = length heap } = cc is in
+      let z_is : z ≡ new_object cell = let at_p = there in let at_new = get_new heap (new_object cell) in cc (rw one at at_p, at_new) in
+      rw z_is refl
+
   -- So a new object may be undone that an allocator made: where operations may touch storage that are called for it, nothing relies on it.
   pub new_may_undo : (k : Control) (places : List Value) (ms : List Master) (rooms : Rooms) (holds : Holds) → Stored (outers known).under (create heap words cell) ms → Roomed (below known) ms rooms → Fit known.program.types known.program.variables (outers known) none_spared heap places holds → StartsTo known cell.access k rooms holds
       → (known.touches cell.access ≡ true → Making known (record { 0 = length heap }) cell.access k (create heap words cell) places ms) → MayUndo known (created heap words) k (create heap words cell) places ms
-  new_may_undo k places ms rooms holds stored roomed fit starts made = (stored, λ e raises. undone_by e raises (known.touches cell.access) refl)
+  new_may_undo k places ms rooms holds stored roomed fit starts made = (stored, (λ e raises. undone_by e raises (known.touches cell.access) refl), new_is_out)
     where
       next : Id
       next = record { 0 = length heap }
@@ -214,7 +227,7 @@ module _ (known : Known) (heap : List Object) (words : _) (cell : Cell Value) wh
           rw z_is at raises
 
       undone_by : (e : Exception) → StartsRaise known (create heap words cell) (created heap words) e → (b : Bool) → known.touches cell.access ≡ b → UndoneTo known (created heap words) k (create heap words cell) places ms e
-      undone_by e raises true is = making_undone known next cell.access k (create heap words cell) places ms (made is) (new_object cell, get_new heap (new_object cell), refl) e raises
+      undone_by e raises true is = making_undone known next cell.access k (create heap words cell) places ms (made is) (new_object cell, get_new heap (new_object cell), refl, refl) e raises
       undone_by e raises false is = new_undone k places ms rooms holds e is roomed fit (starts e (raised e raises))
 
 -- An object that is not gone exists.
@@ -229,7 +242,7 @@ live_exists heap ms o x found live stored = go x.stage refl
 module _ (known : Known) (k : Control) (a : Activation Value) (rest : List (Activation Value)) (s : State) (e : Exception) (done : List parts.Part) where
   -- The object leaves its collection: what is behind goes on still.
   left_resumes : (o : Id) (x : Object) → object_at s.heap o ≡ Some x → StartsRaise known s.heap (Names o) e → UndoneTo known (Names o) k s.heap a.places s.masters e → ResumesTo known (Some o) (slice_set s.heap o.0 (parted x)) a.places s.masters (Resumes (Raising e) ∷ k)
-  left_resumes o x found (q, y, names, there, raises) (p, access, is, under, goes) = (access, under_set s.heap o x (parted x) found refl access at_o, (e, refl, came), behind goes)
+  left_resumes o x found (q, y, names, there, raises) (p, access, is, under, goes) = (access, under_set s.heap o x (parted x) found refl refl access at_o, (e, refl, came), behind goes)
     where
       this : p ≡ o
       this = cc is
@@ -238,7 +251,7 @@ module _ (known : Known) (k : Control) (a : Activation Value) (rest : List (Acti
       at_o = rw this at under
 
       of_under : UnderIs s.heap (Some o) access → x.cell.access ≡ access
-      of_under (z, at_z, of) =
+      of_under (z, at_z, of, out) =
           let one : z ≡ x = cc (at_z, found) in
           rw one at of
 
@@ -274,6 +287,13 @@ module _ (known : Known) (k : Control) (a : Activation Value) (rest : List (Acti
             rest = u.rest;
           })
 
+  -- Its words are out.
+  undone_out : (o : Id) (x : Object) → object_at s.heap o ≡ Some x → UndoneTo known (Names o) k s.heap a.places s.masters e → x.out ≡ true
+  undone_out o x found (p, access, is, (y, there, of, out), goes) =
+      let this : p ≡ o = cc is in
+      let one : y ≡ x = cc (rw this at there, found) in
+      rw one at out
+
   -- What has begun of it is finalized next.
   undone_object : (o : Id) (x : Object) → object_at s.heap o ≡ Some x → x.stage ≡ Existing → Stored (outers known).under s.heap s.masters → StartsRaise known s.heap (Names o) e → UndoneTo known (Names o) k s.heap a.places s.masters e → Stepped known s.heap Quiet (record (undone named e (Names o) done x.cell (in_mode (Raising e) k a rest s)) { heap = slice_set s.heap o.0 (parted x) })
   undone_object o x found exists stored raises u =
@@ -282,6 +302,7 @@ module _ (known : Known) (k : Control) (a : Activation Value) (rest : List (Acti
         object = parted x;
         found = set_here s.heap o.0 x (parted x) found;
         exists = exists;
+        out = undone_out o x found u;
         parted = refl;
         stored = stored_part o x found stored;
         covered = tt;

@@ -25,21 +25,18 @@ use Rattle.ada_owners.specs.Places.{is_there, access_at}
 use Rattle.ada_owners.specs.Reliance.{IsOf}
 use Rattle.ada_owners.proofs.Objects.{present_at}
 use Rattle.ada_owners.specs.Walks.{then_found, value_found, behind, walk}
-use Rattle.ada_sound.proofs.Stored.{Stored, exists_out}
+use Rattle.ada_sound.proofs.Stored.{Stored}
 use Rattle.ada_sound.proofs.Fits.{Fit, Outsiders, IsPlain, ArePlain, MayFollow, none_spared, component_access, component_is, component_follows, behind_good}
 use Rattle.ada_sound.proofs.Orderings.{as_good_then}
 use Rattle.ada_sound.proofs.Invariant.{outers, Known, Control, Rooms, To, RaisesAt, Working, Clearing, PassesNone, PassesNoneOwn, FillsTo, FindsFor, FillsOn, PassesTo, PassesOn, HalfFollows, ReadyIn, Stepped, Fine, ways}
 use Rattle.ada_sound.proofs.Roots.{raises_null, raises_next}
 use Rattle.ada_sound.proofs.Ready.{running, at_work, stays, jumps_less, passes_ready}
-use Rattle.ada_sound.proofs.Back.{stored_before}
 
--- The words of an object that is not gone are out.
-pub stage_out : {under : List Id} {heap : List Object} {masters : List Master} (o : Id) (x : Object) → object_at heap o ≡ Some x → (x.stage ≡ Gone → ⊥) → Stored under heap masters → x.out ≡ true
-stage_out o x found there stored = go x.out refl
-  where
-    go : (b : Bool) → x.out ≡ b → x.out ≡ true
-    go true e = e
-    go false e = absurd (there ((stored.sane o x found).back_gone e))
+-- An object that is not gone is there.
+pub stage_there : (stage : Stage) → (stage ≡ Gone → ⊥) → is_there stage ≡ true
+stage_there Building there = refl
+stage_there Existing there = refl
+stage_there Gone there = absurd (there refl)
 
 -- What is behind a value that names an object that exists is what its component holds.
 pub behind_is : (heap : List Object) (o : Id) (x : Object) (c : ℕ) (w : Value) → object_at heap o ≡ Some x → x.stage ≡ Existing → slice_get x.cell.values c ≡ Some w → behind heap (Names o) c ≡ finds w
@@ -107,17 +104,17 @@ behind_these (c ∷ cs) k = Follows (c ∷ cs) ∷ k
 
 module _ (known : Known) (k : Control) (a : Activation Value) (rest : List (Activation Value)) (s : State) (below : List Value) where
   -- An object's component is read: it is there, or is followed on.
-  followed_fine : (o : Id) (object : Object) (cs : List ℕ) (w : Value) → object_at s.heap o ≡ Some object → object.out ≡ true → ReadyIn known Running (behind_these cs k) s.heap a.places (w ∷ below) s.masters → Stepped known s.heap (Followed (Names o)) (reading named cs w (running k (record a { operands = below }) rest s))
-  followed_fine o object [] w found out r =
+  followed_fine : (o : Id) (object : Object) (cs : List ℕ) (w : Value) → object_at s.heap o ≡ Some object → is_there object.stage ≡ true → ReadyIn known Running (behind_these cs k) s.heap a.places (w ∷ below) s.masters → Stepped known s.heap (Followed (Names o)) (reading named cs w (running k (record a { operands = below }) rest s))
+  followed_fine o object [] w found there r =
       stays known (Followed (Names o)) (running k (record a { operands = w ∷ below }) rest s) (tt, r)
-      (record { id = o; object = object; is = refl; found = found; out = out })
-  followed_fine o object (c ∷ cs) w found out r =
+      (record { id = o; object = object; is = refl; found = found; there = there })
+  followed_fine o object (c ∷ cs) w found there r =
       stays known (Followed (Names o)) (running (Follows (c ∷ cs) ∷ k) (record a { operands = w ∷ below }) rest s) (tt, r)
-      (record { id = o; object = object; is = refl; found = found; out = out })
+      (record { id = o; object = object; is = refl; found = found; there = there })
 
-  got_fine : (o : Id) (object : Object) (cs : List ℕ) (t : Option Value) → object_at s.heap o ≡ Some object → object.out ≡ true → ((w : Value) → t ≡ Some w → ReadyIn known Running (behind_these cs k) s.heap a.places (w ∷ below) s.masters) → Fine known s.heap s.masters (component_next named (Names o) cs t (running k (record a { operands = below }) rest s))
-  got_fine o object cs None found out r = tt
-  got_fine o object cs (Some w) found out r = followed_fine o object cs w found out (r w refl)
+  got_fine : (o : Id) (object : Object) (cs : List ℕ) (t : Option Value) → object_at s.heap o ≡ Some object → is_there object.stage ≡ true → ((w : Value) → t ≡ Some w → ReadyIn known Running (behind_these cs k) s.heap a.places (w ∷ below) s.masters) → Fine known s.heap s.masters (component_next named (Names o) cs t (running k (record a { operands = below }) rest s))
+  got_fine o object cs None found there r = tt
+  got_fine o object cs (Some w) found there r = followed_fine o object cs w found there (r w refl)
 
   -- A value that may be followed is followed by one selector: null raises Constraint_Error.
   pub follow_fine : {under : List Id} (c : ℕ) (cs : List ℕ) (v : Value) → Stored under s.heap s.masters → MayFollow s.heap v → (v ≡ Null → Stepped known s.heap Quiet (raised ConstraintError (running k (record a { operands = below }) rest s))) → ((o : Id) (object : Object) (w : Value) → v ≡ Names o → object_at s.heap o ≡ Some object → is_there object.stage ≡ true → slice_get object.cell.values c ≡ Some w → ReadyIn known Running (behind_these cs k) s.heap a.places (w ∷ below) s.masters) → Fine known s.heap s.masters (path_next named (c ∷ cs) v (running k (record a { operands = below }) rest s))
@@ -125,16 +122,16 @@ module _ (known : Known) (k : Control) (a : Activation Value) (rest : List (Acti
   follow_fine c cs (Names o) stored (object, found, listed) fails r =
       let exists = (stored.sane o object found).there_exists listed in
       rw (found, exists)
-      (got_fine o object cs (slice_get object.cell.values c) found (exists_out o object found exists stored) (λ w is. r o object w refl found listed is))
+      (got_fine o object cs (slice_get object.cell.values c) found listed (λ w is. r o object w refl found listed is))
   follow_fine c cs (Scalar n) stored follows fails r = tt
   follow_fine c cs (Part object_id base) stored follows fails r = tt
 
   -- One selector of a walk that finds something.
-  pub passes_fine : {under : List Id} (c : ℕ) (cs : List ℕ) (v u : Value) → Stored under s.heap s.masters → walk s.heap v (c ∷ cs) ≡ finds u → ((w : Value) → walk s.heap w cs ≡ finds u → ReadyIn known Running (behind_these cs k) s.heap a.places (w ∷ below) s.masters) → Fine known s.heap s.masters (path_next named (c ∷ cs) v (running k (record a { operands = below }) rest s))
-  passes_fine c cs v u stored is r =
+  pub passes_fine : (c : ℕ) (cs : List ℕ) (v u : Value) → walk s.heap v (c ∷ cs) ≡ finds u → ((w : Value) → walk s.heap w cs ≡ finds u → ReadyIn known Running (behind_these cs k) s.heap a.places (w ∷ below) s.masters) → Fine known s.heap s.masters (path_next named (c ∷ cs) v (running k (record a { operands = below }) rest s))
+  passes_fine c cs v u is r =
       let p = passes s.heap c cs u v is in
       rw (p.names, p.looks, p.holds)
-      (followed_fine p.o p.object cs p.w p.at (stage_out p.o p.object p.at p.there stored) (r p.w p.goes_on))
+      (followed_fine p.o p.object cs p.w p.at (stage_there p.object.stage p.there) (r p.w p.goes_on))
 
 -- What typing of the heap says of what is found behind a value.
 pub selected_access : (types : List TypeForm) (from : Option VariableKind) (object : Object) (c : ℕ) → access_of from ≡ Some object.cell.access → access_of (selected_kind types from c) ≡ component_access types object c
@@ -275,10 +272,6 @@ module _ (known : Known) (a : Activation Value) (rest : List (Activation Value))
       next [] u raises there f = passes_ready known k s.heap a.places (u ∷ below) s.masters (at_work w (f u refl))
       next (d ∷ ds) u raises there f = inl (at_work w (there, inr ((λ may. raises), inr (inr (inr f)))))
 
-  -- Objects are stored before a component is cleared, too.
-  clearing_stored : (o : Id) (c : ℕ) (k : Control) → Clearing known (Names o) c k s.heap a.places s.masters → Stored (outers known).under s.heap s.masters
-  clearing_stored o c k clears = stored_before s.heap s.masters (Names o) c Null clears.1.stored
-
   -- What the path of the second half of a take pair leads to is the object of the component; on the way it is followed on.
   half_found : (o : Id) (c : ℕ) (right : RightForm) (k : Control) (v : Value) → right ≡ nothing → Clearing known (Names o) c k s.heap a.places s.masters → walk s.heap v [] ≡ finds (Names o) → ReadyIn known Running (Targets c right ∷ k) s.heap a.places (v ∷ below) s.masters
   half_found o c right k v is clears found = let same : v ≡ Names o = cc found in inr (is, rw same clears)
@@ -293,6 +286,6 @@ module _ (known : Known) (a : Activation Value) (rest : List (Activation Value))
   half_fine (Targets c right ∷ k) [] v (is, o, found, clears) =
       stays known Quiet (running (Targets c right ∷ k) (record a { operands = v ∷ below }) rest s) (tt, half_found o c right k v is clears found) tt
   half_fine (Targets c right ∷ k) (d ∷ ds) v (is, o, found, clears) =
-      passes_fine known (Targets c right ∷ k) a rest s below d ds v (Names o) (clearing_stored o c k clears) found
+      passes_fine known (Targets c right ∷ k) a rest s below d ds v (Names o) found
       (λ w on. half_next o c right k ds w is clears on)
   half_fine (f ∷ k) cs v h = absurd h

@@ -4,7 +4,7 @@
 use Rattle.std.proofs.Common.{◌≡◌, ℕ, Bool, true, false, not, ◌==◌, ◌&&◌, List, ◌∷◌, arith, refl, subst, sym}
 use Rattle.std.specs.Prelude.{Option, Some, None}
 use Rattle.std.specs.List.{slice_get}
-use Rattle.std.proofs.lemmas.Bool.{and_parts}
+use Rattle.std.proofs.lemmas.Bool.{and_parts, eqb-true}
 use Rattle.ada_deeds.specs.Implicit.{implicit_of}
 use Rattle.ada_program.specs.declared.program.Program.{Program}
 use Rattle.ada_program.specs.Controlled.{operations_of}
@@ -36,7 +36,7 @@ use Rattle.ada_sound.proofs.Invariant.{Control, Known}
 use Rattle.ada_sound.proofs.Operating.{IsCalled}
 use Rattle.ada_sound.proofs.Returns.{same_types}
 use Rattle.ada_sound.proofs.ShunningEnds.{body_is_shaped, finalize_shuns}
-use Rattle.ada_sound.proofs.Stored.{Stored}
+use Rattle.ada_sound.proofs.Stored.{Stored, listed_out}
 use Rattle.ada_sound.proofs.Touching.{IsSpared, Watch, Watched, is_unnamed, is_watched, watches}
 
 module _
@@ -70,7 +70,9 @@ module _
       shunned_by :
           (accessed : Bool) → is_access p.types w.is.cell.access ≡ accessed → (among : Apart) × AreApart p program.types.items (λ t. accessed && (w.is.cell.access == t)) among
           × (body_shuns p.types (λ t. accessed && (w.is.cell.access == t)) among b ≡ true)
-      shunned_by true is = finalize_shuns program well uses access of part number w.is.cell.access b operable called there (apart is)
+      shunned_by true is =
+          finalize_shuns program well uses access of part number (λ t. w.is.cell.access == t) b operable called there
+          (λ t same. subst (λ (u : ℕ). (implicit_of p).end_reaches access u ≡ false) (eqb-true w.is.cell.access t same) (apart is))
       shunned_by false is = body_is_shaped program well uses number b there frugal
 
       shunned :
@@ -95,13 +97,9 @@ module _
 
       -- Its home is an item of the masters that were entered before.
       low : AreLow (is_watched (Some w)) s.masters heap
-      low q x is found =
-          let home = home_low heap s.masters w.holder stored (w.is, at, exists) in
-          let same : w.holder ≡ q = id_is w.holder q (is_same w.holder.0 q.0 is) in
-          let here : object_at heap w.holder ≡ Some x = subst (λ (r : Id). object_at heap r ≡ Some x) (sym same) found in
-          let one : home.0 ≡ x = let found' = home.1 in cc (found', here) in
-          let below = home.2 in
-          rw (← one) (omega (arith, below))
+      low q x is found listed =
+          let below = home_low heap s.masters q stored x found (listed_out q x found listed stored) in
+          omega (arith, below)
 
       -- The body begins so, for a part of another object.
       reaching :

@@ -158,10 +158,10 @@ module _ (known : Known) (types : List TypeDefinition) (reaches : Reaches known 
   copied_on [] o there t below (Some vs) many names w = absurd w.rest
   copied_on (Fills items ∷ k') o there t below (Some vs) many names w =
       stays known (Followed (Names o)) (running (Fills items ∷ k') (record a { operands = in_front vs below }) rest s)
-      (tt, at_work w (w.rest.2 vs (many vs refl ∙ width_is t w.rest.0 w.rest.1) (names vs refl))) (followed o there w.stored)
+      (tt, at_work w (w.rest.2 vs (many vs refl ∙ width_is t w.rest.0 w.rest.1) (names vs refl))) (followed o there)
   copied_on (StoresRecord p first count ∷ k') o there t below (Some vs) many names w =
       stays known (Followed (Names o)) (running (StoresRecord p first count ∷ k') (record a { operands = in_front vs below }) rest s)
-      (tt, at_work w (copied_in p t first count vs below k' w.rooms w.holds (many vs refl) (names vs refl) w.rest)) (followed o there w.stored)
+      (tt, at_work w (copied_in p t first count vs below k' w.rooms w.holds (many vs refl) (names vs refl) w.rest)) (followed o there)
   copied_on (f ∷ k') o there t below (Some vs) many names w = absurd w.rest
 
   pub copies_fine : (first t : ℕ) (v : Value) (below : List Value) → Working known s.heap a.places s.masters (λ rooms holds. MayFollow s.heap v × RaisesAt known v [] k rooms holds × CopiesTo known s.heap a.places t below k rooms holds) → Fine known s.heap s.masters (copies_next named v first (width_of types t) (look s.heap v) (running k (record a { operands = below }) rest s))
@@ -201,7 +201,7 @@ module _ (known : Known) (types : List TypeDefinition) (reaches : Reaches known 
       let plain = plain_there first t o there.0 below kinds there.1 there.2 in_record.0 items fits computed in
       rw (there.1, (w.stored.sane o there.0 there.1).there_exists there.2)
       (stays known (Followed (Names o)) (running (Fills items ∷ StoresRecord (Names o) first (width_of types t) ∷ k) (record a { operands = below }) rest s)
-      (tt, at_work w (in_record.1, (plain, in_record.2))) (followed o there w.stored))
+      (tt, at_work w (in_record.1, (plain, in_record.2))) (followed o there))
   record_target_fine first t items (Scalar n) below kinds fits computed w = tt
   record_target_fine first t items (Part object_id base) below kinds fits computed w = tt
 
@@ -225,7 +225,7 @@ module _ (known : Known) (types : List TypeDefinition) (reaches : Reaches known 
       record {
         ready = (tt, runs_ready known k after a.places (drop count a.operands) s.masters (at_less works works.rest));
         alters = all.alters;
-        says = followed o (object, found, listed) w.stored;
+        says = followed o (object, found, listed);
       }
 
   -- Where Adjusts see to components of access types, these count as null until they have ended.
@@ -301,7 +301,7 @@ module _ (known : Known) (types : List TypeDefinition) (reaches : Reaches known 
     stored_adjusted None well names = tt
     stored_adjusted (Some before) well names =
         let h = hides well names in
-        record { ready = (tt, adjusts_ready h); alters = h.alters; says = followed o (object, found, listed) w.stored }
+        record { ready = (tt, adjusts_ready h); alters = h.alters; says = followed o (object, found, listed) }
 
   pub store_record_fine : (o : Value) (first count : ℕ) (kinds : List OperandKind) → typed.Fits known.program (cells_of s.heap) kinds (StoresRecord o first count ∷ k) → AreComputed known.program.types (cells_of s.heap) kinds a.operands → Working known s.heap a.places s.masters (StoresFrom known s.heap a.operands o first count k) → Fine known s.heap s.masters (store_record_next named o first count (look s.heap o) (running k a rest s))
   store_record_fine v first count kinds fits computed w = by v fits w.rest

@@ -111,10 +111,10 @@ module _ (c : ℕ) (v : Value) (nameless : (p : Id) → v ≡ Names p → ⊥) w
       then_set places (GivesBack (Names p) cause pool ∷ k) r = (
         r.0,
         r.1,
-        behind_set known o x (wrote x) heap found refl (Some o) (Some o) (λ w holder other. (other, other))
+        behind_set known o x (wrote x) heap found refl (λ there. refl) (Some o) (Some o) (λ w holder other. (other, other))
             (λ objects held at spared holds f aside. (wrote_fit known objects held o x at spared holds f, (wrote_unnamed objects o x at o aside.0 c v nameless, aside.1)))
             (λ spared held holds f. gone_still heap o x (wrote x) found (λ objects. Fit known.program.types known.program.variables (outers known) spared objects held holds) (gone_fit heap o x (wrote x) found) f)
-            (under_set heap o x (wrote x) found refl) (frees_set known heap o x (wrote x) found refl) (λ w d holder other. named_set known heap o x (wrote x) found refl w d other) cause x.cell.home.item places ms k
+            (under_set heap o x (wrote x) found refl refl) (frees_set known heap o x (wrote x) found refl) (λ w d holder other. named_set known heap o x (wrote x) found refl w d other) cause x.cell.home.item places ms k
             (λ m item leaves going. ((λ spared holds f. wrote_fit known heap places o x found spared holds f), λ unreferred. unreferred)) r.2,
       )
       then_set places (f ∷ k) r = absurd r
@@ -124,6 +124,7 @@ module _ (c : ℕ) (v : Value) (nameless : (p : Id) → v ≡ Names p → ⊥) w
         object = wrote x;
         found = set_here heap o.0 x (wrote x) found;
         exists = rw one at e.exists;
+        out = rw one at e.out;
         parted = rw one at e.parted;
         stored = stored_filled o x c v found e.stored;
         covered = rw one at e.covered;
@@ -260,7 +261,7 @@ module _ (c : ℕ) (v : Value) (nameless : (p : Id) → v ≡ Names p → ⊥) w
     pub treats_written : (treatment : Treatment) (tasks : List Task) (places operands : List Value) (k : Control) → TreatsBy known (Names o) treatment tasks k heap places operands ms → TreatsBy known (Names o) treatment tasks k (slice_set heap o.0 (wrote x)) places operands ms
     treats_written (begins Creation done) tasks places operands k r = (
       begun_set places operands k r.0,
-      undo_set known heap places ms o x (wrote x) found refl (stored_filled o x c v found)
+      undo_set known heap places ms o x (wrote x) found refl refl (stored_filled o x c v found)
           (λ holds f. gone_fit heap o x (wrote x) found f) (λ holds f. wrote_fit known heap places o x found none_spared holds f)
           (λ holds aside. (wrote_unnamed heap o x found o aside.0 c v nameless, aside.1)) k r.1,
     )

@@ -41,16 +41,16 @@ abbrev pub IsAtHome : List Master → Object → Type 0
 IsAtHome masters object =
     (i : Item) × Contains (items_of masters) i × (i.number ≡ object.cell.home.item) × (type_housed i.owned ≡ Some object.cell.access)
 
--- An object of this name exists, of this access type, and its collection is open.
+-- An object of this name exists, of this access type, and its collection is open, if its words are out.
 abbrev pub Exists : List Object → List Master → Option ℕ → Id → Type 0
 Exists objects masters access o =
     (object : Object) × (object_at objects o ≡ Some object) × (object.stage ≡ Existing) × (access ≡ Some object.cell.access)
-    × IsAtHome masters object
+    × (object.out ≡ true → IsAtHome masters object)
 
--- An object of this name exists, and its collection is open.
+-- An object of this name exists, and its collection is open, if its words are out.
 abbrev pub IsThere : List Object → List Master → Id → Type 0
 IsThere objects masters o =
-    (object : Object) × (object_at objects o ≡ Some object) × (object.stage ≡ Existing) × IsAtHome masters object
+    (object : Object) × (object_at objects o ≡ Some object) × (object.stage ≡ Existing) × (object.out ≡ true → IsAtHome masters object)
 
 -- Null, or the name of an object of this access type that exists; or what refers to a record in an object that exists.
 abbrev pub IsValid : List Object → List Master → Option ℕ → Value → Type 0

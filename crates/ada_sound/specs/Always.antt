@@ -10,7 +10,7 @@ use Rattle.ada_text.specs.declared.spot.Spot.{Spot}
 use Rattle.ada_flow.specs.declared.rule.Rule.{Rule}
 use Rattle.ada_program.specs.Form.{declaration_forms, stmt_forms, handler_forms}
 use Rattle.ada_program.specs.ProgramForm.{ProgramForm, TypeForm, record_of, access_to, object_of, main_body, program_form, seen_in}
-use Rattle.ada_program.specs.WellFormed.{IsWellFormed, components_reached, named_in}
+use Rattle.ada_program.specs.WellFormed.{IsWellFormed, components_reached, is_access, named_in}
 use Rattle.ada_program.specs.Nested.{CollectionsNest}
 use Rattle.ada_program.specs.Freed.{FreesItsOwn}
 use Rattle.ada_deeds.specs.Does.{Does}
@@ -21,7 +21,9 @@ use Rattle.ada_deeds.specs.declared.deed.Operation.TheVariants.{Adjust, Finalize
 use Rattle.ada_effects.specs.Effects.{Implicit, effects_of}
 use Rattle.ada_flow.specs.Flow.{Holds, goes, faults, Around, body_around, keeping_of, declarations_flow, stmts_flow, handlers_flow, first_holds, program_flow, types_of, variables_of, ObeysRules}
 use Rattle.ada_flow.specs.Tracking.{no_tracks}
+use Rattle.ada_operations.specs.Created.{collections_of, is_created_before}
 use Rattle.ada_meaning.specs.declared.state.Id.{Id}
+use Rattle.ada_meaning.specs.declared.state.Stage.TheVariants.{Existing}
 use Rattle.ada_meaning.specs.declared.event.Halt.{Halt}
 use Rattle.ada_meaning.specs.declared.event.Halt.TheVariants.{Finished, Erroneous}
 use Rattle.ada_meaning.specs.declared.event.Why.{Why}
@@ -58,6 +60,12 @@ spare_own_types implicit n (t ∷ ts) = spares_own_type implicit n t && spare_ow
 -- created earlier (7.6.1).
 abbrev pub SparesOwn : Program → Type 0
 SparesOwn program = spare_own_types (implicit_of (program_form program)) 0 (program_form program).types ≡ true
+
+-- Where an object of an access type ends, what is freed or followed then is of access types whose collections are created before that of its own (7.6.1).
+abbrev pub SparesNewer : Program → Type 0
+SparesNewer program =
+    (t u : ℕ) → is_access (program_form program).types t ≡ true → (implicit_of (program_form program)).end_reaches t u ≡ true
+    → is_created_before (collections_of (program_form program)) u t ≡ true
 
 -- In a program in which something creates an object with controlled parts, or assigns a record with some, no exception comes out where a record is finalized:
 -- out of the Finalize of no part of it. In one in which something copies a record with some, none comes out where one is adjusted (7.6, 7.6.1). In other
@@ -101,9 +109,9 @@ pub record IsChecked (program : Program) : Type 0 where
   -- each number is that of something there, and each form has the types that it wants
   pub well_formed : IsWellFormed (program_form program)
   -- what overrides an operation of a controlled type touches Integers and Booleans alone, and calls nothing, and no exception comes out of such an Adjust or
-  -- Finalize by its text (7.6); where all that has controlled parts lies in declared objects, or collections are created in order, Initialize and Finalize may
-  -- also move, follow and free, declare record objects whose components name objects of the main procedure's collections alone, and call what does so alone, and
-  -- Initialize may also allocate; and Adjust of a type that declares components of access types may allocate, move, follow and free, so that these own what they
+  -- Finalize by its text (7.6); where operations stand apart, in whatever order collections are created, Initialize and Finalize may also move, follow and
+  -- free, declare record objects whose components name objects of the main procedure's collections alone, and call what does so alone, and Initialize may also
+  -- allocate; and Adjust of a type that declares components of access types may allocate, move, follow and free, so that these own what they
   -- name, or are null, where no component names an object with a part that has such an Adjust; an Adjust allocates and frees no object with controlled parts;
   -- where no Adjust is called, a frugal one is in use; and where none is called, each operation is
   pub in_use : operations_are_in_use (program_form program) ≡ true
@@ -113,6 +121,8 @@ pub record IsChecked (program : Program) : Type 0 where
   pub frees_own : FreesItsOwn (program_form program)
   -- where an object ends, none of its own access type is freed or followed, and where one is adjusted, none is freed (7.6.1)
   pub spares_own : SparesOwn program
+  -- what is freed or followed there is of access types whose collections are created before that of its own (7.6.1)
+  pub spares_newer : SparesNewer program
   -- no exception comes out where a record is finalized, in a program in which a Finalize may be called, or adjusted, in one in which an Adjust may be (7.6.1)
   pub lets_nothing_out : LetsNothingOut (program_form program)
   -- where a Finalize may touch storage, and something creates an object with controlled parts, no component of a record frees an object whose end reaches an
@@ -140,15 +150,21 @@ AgreesThere program s =
     × IsFlowAt program (running_procedure s) rest way s.control holds
     × Agrees (program_form program).types (seen_in (running_procedure s) (program_form program)).variables s holds
 
--- So it is with a state that stands for this one, while an operation runs for a member of a collection that is being left (7.6.1).
+-- So it is with a state that stands for this one, while an operation runs for a member of a collection that is being left (7.6.1): in it objects exist still that
+-- have gone with that collection, or with a newer one.
 abbrev pub AgreesWhileLeft : Program → State → Type 0
-AgreesWhileLeft program s = (access item : ℕ) × (v : State) × IsBeingLeft s access item × StandsFor s v access item × AgreesThere program v
+AgreesWhileLeft program s = (access item : ℕ) × (v : State) × IsBeingLeft s access item × StandsFor s v item × AgreesThere program v
+
+-- The words of each object that exists are out: so its collection is open, where flow says that it exists.
+abbrev pub WordsAreOut : State → Type 0
+WordsAreOut s = (o : Id) (object : Object) → object_at s.heap o ≡ Some object → object.stage ≡ Existing → object.out ≡ true
 
 -- So it is wherever a statement begins, in the main body or in that of a procedure; but, while an operation runs, not in that of a procedure that touches
 -- Integers and Booleans alone, nor in that of an Adjust which tracks components.
 abbrev pub AgreesWithFlow : Program → Type 0
 AgreesWithFlow program =
-    InEveryRun program (λ events last. BeginsStatement last → IsSpokenOf program last → AgreesThere program last ⊎ AgreesWhileLeft program last)
+    InEveryRun program (λ events last. BeginsStatement last → IsSpokenOf program last
+    → WordsAreOut last × (AgreesThere program last ⊎ AgreesWhileLeft program last))
 
 -- Any two events, the first before the second.
 abbrev pub InPairs : (Event → Event → Type 0) → List Event → State → Type 0
@@ -218,6 +234,7 @@ pub record Breaks (rule : Rule) (program : Program) : Type 0 where
   pub nests : CollectionsNest (program_form program)
   pub frees_own : FreesItsOwn (program_form program)
   pub spares_own : SparesOwn program
+  pub spares_newer : SparesNewer program
   pub lets_nothing_out : LetsNothingOut (program_form program)
   pub spares_holders : SparesHolders program
   pub spot : Spot
@@ -230,6 +247,7 @@ pub record IsIllFormed (program : Program) : Type 0 where
   pub nests : CollectionsNest (program_form program)
   pub frees_own : FreesItsOwn (program_form program)
   pub spares_own : SparesOwn program
+  pub spares_newer : SparesNewer program
   pub lets_nothing_out : LetsNothingOut (program_form program)
   pub spares_holders : SparesHolders program
   pub obeys : ObeysRules program
@@ -241,6 +259,7 @@ pub record IsIllNested (program : Program) : Type 0 where
   pub ill_nested : CollectionsNest (program_form program) → ⊥
   pub frees_own : FreesItsOwn (program_form program)
   pub spares_own : SparesOwn program
+  pub spares_newer : SparesNewer program
   pub lets_nothing_out : LetsNothingOut (program_form program)
   pub spares_holders : SparesHolders program
   pub obeys : ObeysRules program
@@ -252,18 +271,21 @@ pub record FreesOthers (program : Program) : Type 0 where
   pub nests : CollectionsNest (program_form program)
   pub frees_others : FreesItsOwn (program_form program) → ⊥
   pub spares_own : SparesOwn program
+  pub spares_newer : SparesNewer program
   pub lets_nothing_out : LetsNothingOut (program_form program)
   pub spares_holders : SparesHolders program
   pub obeys : ObeysRules program
 
--- The program is well formed, its collections nest, it frees by the instances for what it frees, and it obeys the rules, but something that overrides an
--- operation of a controlled type is not in use.
+-- The program has passed all other checks, but something that overrides an operation of a controlled type is not in use.
 pub record NotInUse (program : Program) : Type 0 where
   pub well_formed : IsWellFormed (program_form program)
   pub not_in_use : operations_are_in_use (program_form program) ≡ false
   pub nests : CollectionsNest (program_form program)
   pub frees_own : FreesItsOwn (program_form program)
+  pub spares_own : SparesOwn program
+  pub spares_newer : SparesNewer program
   pub lets_nothing_out : LetsNothingOut (program_form program)
+  pub spares_holders : SparesHolders program
   pub obeys : ObeysRules program
 
 -- The program has passed all other checks, but an exception may come out where a record is finalized, and a Finalize may be called, or where one is adjusted,
@@ -274,7 +296,20 @@ pub record LetsSomeOut (program : Program) : Type 0 where
   pub nests : CollectionsNest (program_form program)
   pub frees_own : FreesItsOwn (program_form program)
   pub spares_own : SparesOwn program
+  pub spares_newer : SparesNewer program
   pub lets_some_out : LetsNothingOut (program_form program) → ⊥
+  pub spares_holders : SparesHolders program
+  pub obeys : ObeysRules program
+
+-- The program has passed all other checks, but where an object ends, something is freed or followed whose collection is not created before that of its own.
+pub record UsesNewer (program : Program) : Type 0 where
+  pub well_formed : IsWellFormed (program_form program)
+  pub in_use : operations_are_in_use (program_form program) ≡ true
+  pub nests : CollectionsNest (program_form program)
+  pub frees_own : FreesItsOwn (program_form program)
+  pub spares_own : SparesOwn program
+  pub uses_newer : SparesNewer program → ⊥
+  pub lets_nothing_out : LetsNothingOut (program_form program)
   pub spares_holders : SparesHolders program
   pub obeys : ObeysRules program
 

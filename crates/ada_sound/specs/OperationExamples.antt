@@ -1082,6 +1082,19 @@ following_events =
     ∷ Finalized first_node 0 0 0 1 (Leaving 0 0)
     ∷ replicate 2 (Followed first_node)
 
+-- procedure Finalize (N : in out Node) is begin Free (N.Next); end Finalize;
+abbrev pub clearing_finalize : BodyForm
+clearing_finalize = operation_body 2 (a_stmt (frees 4 next_now) no_stmts) no_handlers
+
+-- So it is where this is Finalize: it is to free the cell, which is gone, before anything is told of the way there.
+abbrev pub clearing_events : List Event
+clearing_events =
+    Born first_node 0 0 0 1 Creation
+    ∷ replicate 2 (Followed first_node)
+    ++ Back new_cell 4 2 (Some 0) None (Leaving 0 1)
+    ∷ Finalized first_node 0 0 0 1 (Leaving 0 0)
+    ∷ []
+
 -- type Count is new Controlled with record N : Integer; end record; which has number 0. X : Count has number 0 in the main procedure, and is known by type 1,
 -- and the formal parameter by type 2.
 
@@ -1105,6 +1118,18 @@ escaping_stmts = a_stmt skips no_stmts
 -- body, a master of its own, and would come out of the Finalize (7.6.1). The words of X are out then.
 abbrev pub escaping_events : List Event
 escaping_events = Born object_x 0 0 0 1 Creation ∷ Finalized object_x 0 0 0 1 (Leaving 0 0) ∷ Left 1 ∷ []
+
+-- procedure Finalize (C : in out Count) is D : Count; begin C := D; end Finalize; where D is known by type 3.
+abbrev pub renewing_finalize : BodyForm
+renewing_finalize = record (operation_body 2 (a_stmt (assigns_record (object_record 0) (item_of_record (object_record 1) ∷ [])) no_stmts) no_handlers) {
+  variables = unnamed (variable.Record (record { 0 = 2 })) ∷ unnamed (variable.Record (record { 0 = 3 })) ∷ [];
+  declarations = declares_record 1 3 None ∷ [];
+}
+
+-- So it is where this is Finalize: D is initialized, and before C gets its value it is to be finalized, which it has been already (5.2, 7.6.1).
+abbrev pub renewing_events : List Event
+renewing_events =
+    Born object_x 0 0 0 1 Creation ∷ Finalized object_x 0 0 0 1 (Leaving 0 0) ∷ Born object_new 0 0 0 2 Creation ∷ Followed object_x ∷ Followed object_new ∷ []
 
 -- Constraint_Error would come out where this operation is called for a record of the type of number 0 (7.6, 7.6.1).
 abbrev pub WouldRaise : Operation → Program → Type 0

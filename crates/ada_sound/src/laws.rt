@@ -21,8 +21,10 @@ ghost use Rattle.ada_sound.specs.ImplicitCalls as implicit_calls;
 /// operation of a controlled type runs, too, but in the body of one that touches Integers and Booleans alone, or of a
 /// procedure that does, and in that of an Adjust of a type that declares components of access types. Components of
 /// objects in their collections hold null, or name objects that exist. No object has two owners among variables and
-/// components, but for a component that the statement sets to null. A way through the statements leads to one place, and
-/// flow says one thing there.
+/// components, but for a component that the statement sets to null. While such an operation runs for a member of a
+/// collection that is being left, so it is in the state, or in one that stands for it, in which what has gone with that
+/// collection, or with a newer one, exists still (7.6.1). The words of each object that exists are out, and so its
+/// collection is open. A way through the statements leads to one place, and flow says one thing there.
 pub fn flow_invariant()
     ensures agrees { (program : Program) → IsChecked program → AgreesWithFlow program }
     ensures one_flow { OneFlow }

@@ -39,12 +39,12 @@ other = record { 0 = 1 }
 abbrev ghost : Id
 ghost = record { 0 = 2 }
 
--- An object with these components, which is in its collection, with its words out, or not.
+-- An object with these components, which has been taken out of its collection, with its words out, or not.
 abbrev an_object : List Value → Stage → Bool → Object
 an_object vs stage there = record {
   cell = record { access = 0; number = 1; home = record { item = 0; pool = Some 0; subpool = None }; values = vs; parts = [] };
   stage = stage;
-  listed = there;
+  listed = false;
   out = there;
 }
 
@@ -88,17 +88,17 @@ beside w v u vs = record { count = refl; values = at_component }
     at_component (suc (suc c)) shown = refl
 
 itself : (hides : ℕ → Bool) (x : Object) → ObjectsAlike hides false x x
-itself hides x = record { values = record { count = refl; values = λ c shown. refl }; cell = refl; life = refl }
+itself hides x = record { values = record { count = refl; values = λ c shown. refl }; cell = refl; listed = refl; life = refl }
 
 gone_or_not : (hides : ℕ → Bool) (vs : List Value) (stage later : Stage) (there still : Bool) → ObjectsAlike hides true (an_object vs stage there) (an_object vs later still)
-gone_or_not hides vs stage later there still = record { values = record { count = refl; values = λ c shown. refl }; cell = refl; life = tt }
+gone_or_not hides vs stage later there still = record { values = record { count = refl; values = λ c shown. refl }; cell = refl; listed = refl; life = tt }
 
 -- The first states are alike but for both.
 alike_but_for_both : HeapsAlike hidden_one one_ghost (heap_with (Names ghost) Existing true) (heap_with Null Gone false)
 alike_but_for_both = record { count = refl; objects = λ o. under o.0 }
   where
     under : (i : ℕ) → FoundAlike (hidden_one (record { 0 = i })) (one_ghost (record { 0 = i })) (slice_get (heap_with (Names ghost) Existing true) i) (slice_get (heap_with Null Gone false) i)
-    under zero = record { values = beside (Names other) (Names ghost) Null []; cell = refl; life = refl }
+    under zero = record { values = beside (Names other) (Names ghost) Null []; cell = refl; listed = refl; life = refl }
     under (suc zero) = itself (hidden_one other) (an_object (Names holder ∷ []) Existing true)
     under (suc (suc zero)) = gone_or_not (hidden_one ghost) (Null ∷ []) Existing Gone true false
     under (suc (suc (suc i))) = tt
@@ -116,7 +116,7 @@ alike_but_for_hidden : HeapsAlike hidden_one no_ghost (heap_with (Names ghost) E
 alike_but_for_hidden = record { count = refl; objects = λ o. under o.0 }
   where
     under : (i : ℕ) → FoundAlike (hidden_one (record { 0 = i })) (no_ghost (record { 0 = i })) (slice_get (heap_with (Names ghost) Existing true) i) (slice_get (heap_with Null Existing true) i)
-    under zero = record { values = beside (Names other) (Names ghost) Null []; cell = refl; life = refl }
+    under zero = record { values = beside (Names other) (Names ghost) Null []; cell = refl; listed = refl; life = refl }
     under (suc zero) = itself (hidden_one other) (an_object (Names holder ∷ []) Existing true)
     under (suc (suc zero)) = itself (hidden_one ghost) (an_object (Null ∷ []) Existing true)
     under (suc (suc (suc i))) = tt
@@ -296,7 +296,7 @@ records_alike : (left right : Value) → HeapsAlike hidden_one one_ghost (one_wi
 records_alike left right = record { count = refl; objects = λ o. under o.0 }
   where
     under : (i : ℕ) → FoundAlike (hidden_one (record { 0 = i })) (one_ghost (record { 0 = i })) (slice_get (one_with left right) i) (slice_get (other_with left right) i)
-    under zero = record { values = beside Null (Names ghost) Null (left ∷ right ∷ []); cell = refl; life = refl }
+    under zero = record { values = beside Null (Names ghost) Null (left ∷ right ∷ []); cell = refl; listed = refl; life = refl }
     under (suc zero) = itself (hidden_one other) (an_object (Null ∷ Names holder ∷ Names other ∷ []) Existing true)
     under (suc (suc zero)) = gone_or_not (hidden_one ghost) (Null ∷ []) Existing Gone true false
     under (suc (suc (suc i))) = tt

@@ -275,7 +275,7 @@ module _ {hidden : Id → (component : ℕ) → Bool} {ghosts : Id → Bool} {Ar
   collection_same : (types : List TypeDefinition) (cause : Cause) (pool : Option ℕ) (item : ℕ) (s : State) (k : List Object) → AreSo s.heap k → HousesNoGhost ghosts s.heap item → NextSo ghosts AreSo (members_next named types cause pool (members s.heap item) s) (members_next named types cause pool (members k item) (over k s))
   collection_same types cause pool item s k a none =
       subst (λ (vs : List Value). NextSo ghosts AreSo (members_next named types cause pool (members s.heap item) s) (members_next named types cause pool vs (over k s)))
-      (sym (keeps.collects s.heap k a item none)) (members_same types cause pool (members s.heap item) (members_in_sight ghosts item s.heap none) s k a)
+      (sym (keeps.collects s.heap k a item)) (members_same types cause pool (members s.heap item) (members_in_sight ghosts item s.heap none) s k a)
 
   -- Masters are left.
   item_leave_same : (types : List TypeDefinition) (m : ℕ) (item : Item) (what : Owned) (s : State) (k : List Object) → AreSo s.heap k → (type_housed what ≡ None) ⊎ HousesNoGhost ghosts s.heap item.number → NextSo ghosts AreSo (item_leave_next named types m item what s) (item_leave_next named types m item what (over k s))

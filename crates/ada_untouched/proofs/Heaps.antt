@@ -3,6 +3,7 @@
 use Rattle.std.proofs.Common.{◌≡◌, ◌≢◌, ◌⊎◌, ℕ, zero, suc, ◌+◌, Bool, true, false, List, [], ◌∷◌, ◌++◌, length, take, drop, Option, Some, None, is_some, refl, sym, ap, ◌∙◌, inl, inr, subst, arith, length-set}
 use Rattle.std.specs.Prelude.{◌==◌, ◌&&◌, if◌then◌else◌, map}
 use Rattle.std.specs.List.{slice_get, slice_set, slice_index_or, AllByRecursion}
+use Rattle.std.proofs.lemmas.Bool.{and_parts, eqb-true}
 use Rattle.std.proofs.lemmas.Bool.Decides.{eqb_tells}
 use Rattle.ada_meaning.specs.declared.state.Id.{Id}
 use Rattle.ada_meaning.specs.declared.state.Stage.{Stage}
@@ -126,25 +127,26 @@ same_life false p = p
 
 one_self : (hiding : ℕ → Bool) (ghost : Bool) (a : Option Object) → FoundAlike hiding ghost a a
 one_self hiding ghost None = tt
-one_self hiding ghost (Some x) = record { values = same_values hiding x.cell.values; cell = refl; life = same_life ghost refl }
+one_self hiding ghost (Some x) = record { values = same_values hiding x.cell.values; cell = refl; listed = refl; life = same_life ghost refl }
 
 -- Both objects change.
 abbrev pub KeepsAlike : (Object → Object) → Type 0
 KeepsAlike change = (hiding : ℕ → Bool) (ghost : Bool) (x y : Object) → ObjectsAlike hiding ghost x y → ObjectsAlike hiding ghost (change x) (change y)
 
 pub parted_alike : KeepsAlike parted
-parted_alike hiding ghost x y a = record { values = a.values; cell = a.cell; life = unless ghost (λ e. ap parted e) a.life }
+parted_alike hiding ghost x y a = record { values = a.values; cell = a.cell; listed = refl; life = unless ghost (λ e. ap parted e) a.life }
 
 pub finished_alike : KeepsAlike finished
-finished_alike hiding ghost x y a = record { values = a.values; cell = a.cell; life = unless ghost (λ e. ap finished e) a.life }
+finished_alike hiding ghost x y a = record { values = a.values; cell = a.cell; listed = refl; life = unless ghost (λ e. ap finished e) a.life }
 
 pub returned_alike : KeepsAlike returned
-returned_alike hiding ghost x y a = record { values = a.values; cell = a.cell; life = unless ghost (λ e. ap returned e) a.life }
+returned_alike hiding ghost x y a = record { values = a.values; cell = a.cell; listed = a.listed; life = unless ghost (λ e. ap returned e) a.life }
 
 pub filled_alike : (c : ℕ) (v : Value) → KeepsAlike (filled c v)
 filled_alike c v hiding ghost x y a = record {
   values = set_values hiding x.cell.values y.cell.values c v a.values;
   cell = ap (λ (cell : Cell Value). record cell { values = slice_set y.cell.values c v }) a.cell;
+  listed = a.listed;
   life = unless ghost (λ e. ap (λ (z : Object). record z { cell = (filled c v y).cell }) e) a.life;
 }
 
@@ -152,6 +154,7 @@ pub treated_alike : (change : PartState → PartState) (part : ℕ) → KeepsAli
 treated_alike change part hiding ghost x y a = record {
   values = a.values;
   cell = ap (λ (cell : Cell Value). record cell { parts = with_part change part (slice_get cell.parts part) cell.parts }) a.cell;
+  listed = a.listed;
   life = unless ghost (λ e. ap (λ (z : Object). record z { cell = (treated change part y).cell }) e) a.life;
 }
 
@@ -185,35 +188,22 @@ abbrev pub member_by : (item : ℕ) → Option Object → Bool
 member_by item None = false
 member_by item (Some x) = is_member item x
 
--- An object that has its home elsewhere is in no collection of this item.
-housed_elsewhere : (item : ℕ) (x : Object) → x.cell.home.item ≢ item → is_member item x ≡ false
-housed_elsewhere item x ne = elim (eqb_tells x.cell.home.item item) [ inl h ↦ absurd (ne h.1) | inr h ↦ neither x.listed (x.cell.home.item == item) h.0 ]
-  where
-    neither : (a b : Bool) → b ≡ false → (a && b) ≡ false
-    neither true b e = e
-    neither false b e = refl
+-- A member is listed, and has its home in the item.
+member_there : (item : ℕ) (x : Object) → is_member item x ≡ true → (x.listed ≡ true) × (x.cell.home.item ≡ item)
+member_there item x is = let both = and_parts x.listed (x.cell.home.item == item) is in (both.0, eqb-true x.cell.home.item item both.1)
 
--- A member has its home in the item.
-member_home : (item : ℕ) (x : Object) → is_member item x ≡ true → x.cell.home.item ≡ item
-member_home item x is = elim (eqb_tells x.cell.home.item item) [ inl h ↦ h.1 | inr h ↦ absurd (let no = housed_elsewhere item x h.1 in cc (is, no)) ]
-
--- An object and the one under its name in the other heap are both in the collection, or neither is; for a ghost has its home elsewhere, in both.
-both_members :
-    (hiding : ℕ → Bool) (ghost : Bool) (item : ℕ) (x y : Object) → (ghost ≡ true → x.cell.home.item ≢ item) → ObjectsAlike hiding ghost x y
-    → is_member item y ≡ is_member item x
-both_members hiding true item x y elsewhere a =
+-- An object and the one under its name in the other heap are both in the collection, or neither is.
+both_members : (hiding : ℕ → Bool) (ghost : Bool) (item : ℕ) (x y : Object) → ObjectsAlike hiding ghost x y → is_member item y ≡ is_member item x
+both_members hiding ghost item x y a =
     let home : y.cell.home.item ≡ x.cell.home.item = ap (λ (cell : Cell Value). cell.home.item) a.cell in
-    housed_elsewhere item y (λ e. elsewhere refl (sym home ∙ e)) ∙ sym (housed_elsewhere item x (elsewhere refl))
-both_members hiding false item x y elsewhere a = ap (is_member item) (is_but_for_values hiding false x y refl a)
+    rw (a.listed, home) refl
 
 -- So it is with what is found under a name in both heaps.
-member_alike :
-    (hiding : ℕ → Bool) (ghost : Bool) (item : ℕ) (f g : Option Object) → ((x : Object) → ghost ≡ true → f ≡ Some x → x.cell.home.item ≢ item)
-    → FoundAlike hiding ghost f g → member_by item g ≡ member_by item f
-member_alike hiding ghost item None None elsewhere a = refl
-member_alike hiding ghost item None (Some y) elsewhere a = absurd a
-member_alike hiding ghost item (Some x) None elsewhere a = absurd a
-member_alike hiding ghost item (Some x) (Some y) elsewhere a = both_members hiding ghost item x y (λ is. elsewhere x is refl) a
+member_alike : (hiding : ℕ → Bool) (ghost : Bool) (item : ℕ) (f g : Option Object) → FoundAlike hiding ghost f g → member_by item g ≡ member_by item f
+member_alike hiding ghost item None None a = refl
+member_alike hiding ghost item None (Some y) a = absurd a
+member_alike hiding ghost item (Some x) None a = absurd a
+member_alike hiding ghost item (Some x) (Some y) a = both_members hiding ghost item x y a
 
 -- What is looked for, in whatever way, is found in both, where a test on the rest of the object decides.
 module _ (hiding : ℕ → Bool) (look_at : Object → Found (Cell Value))
@@ -305,11 +295,11 @@ same_members_from item n (x ∷ xs) (y ∷ ys) e each =
 pub same_members : (item : ℕ) (h k : List Object) → length h ≡ length k → ((o : Id) → member_by item (object_at k o) ≡ member_by item (object_at h o)) → members k item ≡ members h item
 same_members item h k e each = ap (λ (ids : List Id). map Names ids) (same_members_from item 0 h k e (λ i. each (record { 0 = i })))
 
--- Where no ghost has its home in an item, no member of its collection is a ghost.
+-- Where no ghost that is listed has its home in an item, no member of its collection is a ghost.
 module _ (ghosts : Id → Bool) (item : ℕ) where
   -- So it is among objects of which the first has this name.
   abbrev NoneFrom : (n : ℕ) → List Object → Type 0
-  NoneFrom n xs = (place : ℕ) (x : Object) → ghosts (record { 0 = n + place }) ≡ true → slice_get xs place ≡ Some x → x.cell.home.item ≢ item
+  NoneFrom n xs = (place : ℕ) (x : Object) → ghosts (record { 0 = n + place }) ≡ true → slice_get xs place ≡ Some x → x.listed ≡ true → x.cell.home.item ≢ item
 
   -- It is so among those behind the first.
   none_later : (n : ℕ) (x : Object) (xs : List Object) → NoneFrom n (x ∷ xs) → NoneFrom (suc n) xs
@@ -326,7 +316,8 @@ module _ (ghosts : Id → Bool) (item : ℕ) where
   first_in_sight : (n : ℕ) (x : Object) (xs : List Object) → NoneFrom n (x ∷ xs) → is_member item x ≡ true → (ghost : Bool) → ghosts (record { 0 = n }) ≡ ghost → ghosts (record { 0 = n }) ≡ false
   first_in_sight n x xs none is true ghost =
       let same : n ≡ n + 0 = omega arith in
-      absurd (none 0 x (subst (λ (i : ℕ). ghosts (record { 0 = i }) ≡ true) same ghost) refl (member_home item x is))
+      let there = member_there item x is in
+      absurd (none 0 x (subst (λ (i : ℕ). ghosts (record { 0 = i }) ≡ true) same ghost) refl there.0 there.1)
   first_in_sight n x xs none is false ghost = ghost
 
   -- So what the first object adds to the members may be looked for.
@@ -395,7 +386,6 @@ module _ (hidden : Id → (component : ℕ) → Bool) (ghosts : Id → Bool) (h 
   pub created_alike : (words : ℕ) → created k words ≡ created h words
   created_alike words = ap (λ (n : ℕ). Names (record { 0 = n })) (sym a.count)
 
-  -- Where no ghost has its home in an item, its collection has the same members.
-  pub members_alike : (item : ℕ) → HousesNoGhost ghosts h item → members k item ≡ members h item
-  members_alike item none =
-      same_members item h k a.count (λ o. member_alike (hidden o) (ghosts o) item (object_at h o) (object_at k o) (none o) (a.objects o))
+  -- The collection of an item has the same members.
+  pub members_alike : (item : ℕ) → members k item ≡ members h item
+  members_alike item = same_members item h k a.count (λ o. member_alike (hidden o) (ghosts o) item (object_at h o) (object_at k o) (a.objects o))

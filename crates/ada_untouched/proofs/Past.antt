@@ -153,7 +153,7 @@ heaps_but_for_past_keep = record {
   lends = λ h k a v clear. lent_past h k a (hides none_hidden v) v;
   stands = λ h k a v clear. standing_past h k a (hides none_hidden v) v;
   names = λ h k a words. ap (λ (n : ℕ). Names (record { 0 = n })) (sym a.count);
-  collects = λ h k a item none. members_past h k a item;
+  collects = λ h k a item. members_past h k a item;
   parts = λ h k a. on_past h k a parted parted_past;
   finishes = λ h k a. on_past h k a finished finished_past;
   returns = λ h k a. on_past h k a returned returned_past;
@@ -178,7 +178,7 @@ sights (Part o place) = refl
 -- There are no ghosts, so none has its home in an item.
 newest_houses_none : (h : List Object) (items : List Item) → NewestHousesNoGhost no_ghosts h items
 newest_houses_none h [] = tt
-newest_houses_none h (i ∷ is) = inr (λ o x ghost found same. cc ghost)
+newest_houses_none h (i ∷ is) = inr (λ o x ghost found listed same. cc ghost)
 
 innermost_houses_none : (h : List Object) (masters : List Master) → InnermostHousesNoGhost no_ghosts h masters
 innermost_houses_none h [] = tt

@@ -7,7 +7,7 @@ use Rattle.ada_meaning.specs.Heap.{PartState, Cell}
 use Rattle.ada_meaning.specs.Step.{stored_from}
 use Rattle.ada_meaning.specs.Named.{Object, Next, named, look, lent, standing, create, created, parted, finished, returned, treated, on_object, store, members}
 use Rattle.ada_untouched.specs.Alike.{HeapsAlike, SparesGhosts, NextBy}
-use Rattle.ada_untouched.specs.Untouched.{hides, IsInSight, HousesNoGhost}
+use Rattle.ada_untouched.specs.Untouched.{hides, IsInSight}
 use Rattle.ada_untouched.proofs.Heaps.{CellsAlike, parted_alike, finished_alike, returned_alike, treated_alike, look_alike, lent_alike, standing_alike, on_alike, store_alike, create_alike, created_alike, members_alike}
 
 -- Of two heaps that are related so: what may be looked for is found in both, but for hidden components; the next name is the same; and so are the members of
@@ -17,7 +17,7 @@ pub record Keeps (hidden : Id → (component : ℕ) → Bool) (ghosts : Id → B
   pub lends : (h k : List Object) → AreSo h k → (v : Value) → IsInSight ghosts v → CellsAlike (hides hidden v) (lent h v) (lent k v)
   pub stands : (h k : List Object) → AreSo h k → (v : Value) → IsInSight ghosts v → CellsAlike (hides hidden v) (standing h v) (standing k v)
   pub names : (h k : List Object) → AreSo h k → (words : ℕ) → created k words ≡ created h words
-  pub collects : (h k : List Object) → AreSo h k → (item : ℕ) → HousesNoGhost ghosts h item → members k item ≡ members h item
+  pub collects : (h k : List Object) → AreSo h k → (item : ℕ) → members k item ≡ members h item
   pub parts : (h k : List Object) → AreSo h k → (v : Value) → AreSo (on_object parted h v) (on_object parted k v)
   pub finishes : (h k : List Object) → AreSo h k → (v : Value) → AreSo (on_object finished h v) (on_object finished k v)
   pub returns : (h k : List Object) → AreSo h k → (v : Value) → AreSo (on_object returned h v) (on_object returned k v)

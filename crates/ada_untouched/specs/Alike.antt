@@ -19,11 +19,12 @@ abbrev pub UnlessGhost : (ghost : Bool) → Type 0 → Type 0
 UnlessGhost true P = Unit {0}
 UnlessGhost false P = P
 
--- Two objects that differ at most in the values of hidden components; and, where they are ghosts, in whether the object exists, is in its collection, and
--- has its words out.
+-- Two objects that differ at most in the values of hidden components; and, where they are ghosts, in whether the object exists and has its words out. Both are in
+-- their collections, or neither is.
 pub record ObjectsAlike (hides : ℕ → Bool) (ghost : Bool) (x y : Object) : Type 0 where
   pub values : ValuesAlike hides x.cell.values y.cell.values
   pub cell : y.cell ≡ record (x.cell) { values = y.cell.values }
+  pub listed : y.listed ≡ x.listed
   pub life : UnlessGhost ghost (y ≡ record x { cell = y.cell })
 
 -- Such objects, or none in both places.

@@ -57,9 +57,9 @@ MayBeFreed ghosts c on_gone = Unit {0}
 MayBeFreed ghosts c on_other = Unit {0}
 MayBeFreed ghosts c (finds cell) = MayBeSought ghosts (slice_get cell.values c)
 
--- No ghost has its home in the item of a number (7.6.1), whether it exists or not.
+-- No ghost that is in its collection has its home in the item of a number (7.6.1), whether it exists or not.
 abbrev pub HousesNoGhost : (ghosts : Id → Bool) → List Object → (item : ℕ) → Type 0
-HousesNoGhost ghosts heap item = (o : Id) (x : Object) → ghosts o ≡ true → object_at heap o ≡ Some x → x.cell.home.item ≢ item
+HousesNoGhost ghosts heap item = (o : Id) (x : Object) → ghosts o ≡ true → object_at heap o ≡ Some x → x.listed ≡ true → x.cell.home.item ≢ item
 
 -- So it is with the newest of these items, or no objects have their home there.
 abbrev pub NewestHousesNoGhost : (ghosts : Id → Bool) → List Object → List Item → Type 0

@@ -23,7 +23,7 @@ use crate::laws::accepted_sources_have_no_fault;
 use ada_circles::first_circle;
 use ada_effects::Implicit;
 use ada_flow::{FlowFault, flow};
-use ada_operations::laws::{ends_spare_their_own, obeying_propagates_nothing};
+use ada_operations::laws::{ends_spare_newer, ends_spare_their_own, obeying_propagates_nothing};
 use ada_operations::operations;
 use ada_parser::parse;
 use ada_program::Program;
@@ -105,6 +105,7 @@ fn checked(alloc: Global, source: &[u8]) -> Result<Accepted, Verdict>
     ensures refused { IfErr result (λ verdict. IsFirst source.now verdict) }
 {
     ends_spare_their_own();
+    ends_spare_newer();
     obeying_propagates_nothing();
     let program = program_of(alloc, source)?;
     judge(alloc, &program)?;

@@ -8,4 +8,5 @@ use Rattle.ada_quiet.proofs.calm.are_calm_parts.Given as goal
 -- what is left tells of all
 abbrev pub invariant-parts : goal.invariant-parts
 invariant-parts l =
-    list_all (λ c. is_calm_part (types_in l.types) l.calm c.kind) (map part_form (drop l.part-index l.parts)) ≡ list_all (λ c. is_calm_part (types_in l.types) l.calm c.kind) (map part_form l.parts)
+    list_all (λ c. is_calm_part (types_in l.types) l.calm c.kind) (map part_form (drop l.part-index l.parts))
+    ≡ list_all (λ c. is_calm_part (types_in l.types) l.calm c.kind) (map part_form l.parts)

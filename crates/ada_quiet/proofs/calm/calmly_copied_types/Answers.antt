@@ -5,11 +5,15 @@ use Rattle.ada_quiet.proofs.calm.calmly_copied_types.Goals as goal
 
 pub numbered-preserved : goal.numbered-preserved
 numbered-preserved c =
-    known_of_one_more _ c.args.program.now.types.items c.deref.result.now c.deref.ensures.value c.in_ok-numbered.numbered.items c.deref-definition-items.result.now c.deref-definition-items.ensures.value c.in_ok-numbered.ensures
-    c.numbered.definition-index c.numbered-test.true c.definition-item.result c.definition-item.is c.numbered.calm.items c.deref-in-numbered.result.now c.push.new.self.items
-    c.is_calmly_copied_found-is_calm.result c.deref-in-numbered.ensures.value c.in_ok-push.ensures.items c.numbered.invariant c.is_calmly_copied_found-is_calm.ensures
+    known_of_one_more _ c.args.program.now.types.items c.deref.result.now c.deref.ensures.value c.in_ok-numbered.numbered.items
+    c.deref-definition-items.result.now c.deref-definition-items.ensures.value c.in_ok-numbered.ensures
+    c.numbered.definition-index c.numbered-test.true c.definition-item.result c.definition-item.is c.numbered.calm.items
+    c.deref-in-numbered.result.now c.push.new.self.items
+    c.is_calmly_copied_found-is_calm.result c.deref-in-numbered.ensures.value c.in_ok-push.ensures.items
+    c.numbered.invariant c.is_calmly_copied_found-is_calm.ensures
 
 pub returns : goal.returns
 returns c =
-    known_of_all _ c.args.program.now.types.items c.deref.result.now c.deref.ensures.value c.in_ok-numbered.numbered.items c.deref-definition-items.result.now c.deref-definition-items.ensures.value c.in_ok-numbered.ensures
+    known_of_all _ c.args.program.now.types.items c.deref.result.now c.deref.ensures.value c.in_ok-numbered.numbered.items c.deref-definition-items.result.now
+    c.deref-definition-items.ensures.value c.in_ok-numbered.ensures
     c.numbered.definition-index c.numbered.calm.items (omega arith) c.numbered.invariant

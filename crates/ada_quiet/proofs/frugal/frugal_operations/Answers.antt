@@ -7,7 +7,7 @@ use Rattle.ada_program.specs.Nested.{collected, is_one_of}
 use Rattle.ada_program.specs.ProgramForm.{BodyForm, ProgramForm, program_form}
 use Rattle.ada_quiet.specs.Calm.{inert_types}
 use Rattle.ada_quiet.specs.Frugal.{Thrift, is_frugal_body, frugal_from, frugal_operations, thrift_of}
-use Rattle.ada_quiet.specs.Known.{marked_in, thrift_in}
+use Rattle.ada_quiet.specs.Known.{marked_in}
 use Rattle.ada_quiet.proofs.FrugalAt.{frugal_alike, tests_alike, thrift_alike}
 use Rattle.ada_quiet.proofs.MarkedNumbers.{marked_told}
 use Rattle.ada_quiet.proofs.frugal.frugal_operations.Goals as goal
@@ -21,15 +21,21 @@ by_marks (Err e) p thrift same is = is
 
 pub returns : goal.returns
 returns c =
-    let program = c.args.program.now in
-    let p = program_form program in
+    let p = program_form c.args.program.now in
     let marks = c.in_ok-outermost.outermost.items in
     let outermost = λ (t : ℕ). marked_told marks t ∙ c.in_ok-outermost.ensures t in
-    let procedures = c.deref-6.ensures.value ∙ c.in_ok-procedures.ensures
+    let procedures = c.deref-7.ensures.value ∙ c.in_ok-procedures.ensures
     ∙ ap (λ (ms : List Bool). frugal_from p.types (marked_in ms) [] p.bodies) c.deref-2.ensures.value
     ∙ frugal_alike p.types (marked_in marks) (collected p.declarations) outermost [] p.bodies in
-    let inert = c.deref-5.ensures.value ∙ c.in_ok-inert.ensures ∙ ap (λ (ts : List TypeDefinition). inert_types (types_in ts)) c.deref.ensures.value in
-    let thrift = thrift_in program.types.items (marked_in c.deref-4.result.now) c.deref-5.result.now c.deref-6.result.now true in
-    by_marks c.frugal_operations_by.result p thrift
-    (thrift_alike thrift (thrift_of p) refl (λ t. ap (λ (ms : List Bool). is_one_of (marked_in ms) t) c.deref-4.ensures.value ∙ outermost t) inert procedures refl)
-    c.frugal_operations_by.ensures
+    let inert = c.deref-6.ensures.value ∙ c.in_ok-inert.ensures ∙ ap (λ (ts : List TypeDefinition). inert_types (types_in ts)) c.deref.ensures.value in
+    let thrift : Thrift = record {
+      types = types_in c.deref-4.result.now;
+      outermost = marked_in c.deref-5.result.now;
+      inert = c.deref-6.result.now;
+      procedures = c.deref-7.result.now;
+      operation = true;
+    } in
+    by_marks c.are_frugal_bodies.result p thrift
+    (thrift_alike thrift (thrift_of p) (ap (λ (ts : List TypeDefinition). types_in ts) c.deref-4.ensures.value)
+    (λ t. ap (λ (ms : List Bool). is_one_of (marked_in ms) t) c.deref-5.ensures.value ∙ outermost t) inert procedures refl)
+    c.are_frugal_bodies.ensures

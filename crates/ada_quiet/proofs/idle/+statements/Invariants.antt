@@ -7,7 +7,8 @@ use Rattle.ada_quiet.proofs.idle.+statements.Given as goal
 -- what is left tells of all
 abbrev pub invariant-stmts_make_parts-statements : goal.invariant-stmts_make_parts-statements
 invariant-stmts_make_parts-statements l =
-    stmts_make_parts (types_in l.fn.types) l.fn.copies (stmts_form (drop l.statement-index l.statements)) ≡ stmts_make_parts (types_in l.fn.types) l.fn.copies (stmts_form l.statements)
+    stmts_make_parts (types_in l.fn.types) l.fn.copies (stmts_form (drop l.statement-index l.statements))
+    ≡ stmts_make_parts (types_in l.fn.types) l.fn.copies (stmts_form l.statements)
 
 -- what is left tells of all
 abbrev pub invariant-branches_make_parts-branches : goal.invariant-branches_make_parts-branches
@@ -18,4 +19,5 @@ invariant-branches_make_parts-branches l = (others : StmtsForm) →
 -- what is left tells of all
 abbrev pub invariant-handlers_make_parts-handlers : goal.invariant-handlers_make_parts-handlers
 invariant-handlers_make_parts-handlers l =
-    handlers_make_parts (types_in l.fn.types) l.fn.copies (handlers_form (drop l.handler-index l.handlers)) ≡ handlers_make_parts (types_in l.fn.types) l.fn.copies (handlers_form l.handlers)
+    handlers_make_parts (types_in l.fn.types) l.fn.copies (handlers_form (drop l.handler-index l.handlers))
+    ≡ handlers_make_parts (types_in l.fn.types) l.fn.copies (handlers_form l.handlers)

@@ -8,4 +8,5 @@ use Rattle.ada_quiet.proofs.tracking.adjusts_alone.Given as goal
 -- what is left tells of all
 abbrev pub invariant-types : goal.invariant-types
 invariant-types l =
-    list_all (λ t. has_one_part (finalization_in (Some t))) (map type_form (drop l.definition-index l.definition-items)) ≡ adjusts_alone (program_form l.program)
+    list_all (λ t. has_one_part (finalization_in (Some t))) (map type_form (drop l.definition-index l.definition-items))
+    ≡ adjusts_alone (program_form l.program)

@@ -11,7 +11,8 @@ use Rattle.ada_quiet.proofs.tracking.stand_in_a_row.Goals as goal
 -- numbers do not fall: past the count, they do not end with it
 past : (types : List TypeForm) (from : ℕ) (ps : List PartForm) (count : ℕ) → count < from → stand_in_a_row types from ps count ≡ false
 past types from [] count over = grind (arith, common_steps)
-past types from (p ∷ ps) count over = let more = past types (from + size_of_part types p.kind) ps count (omega (arith, over)) in grind (arith, common_steps, more)
+past types from (p ∷ ps) count over =
+    let more = past types (from + size_of_part types p.kind) ps count (omega (arith, over)) in grind (arith, common_steps, more)
 
 -- a component that has more elementary ones than are left
 too_many : (types : List TypeForm) (from : ℕ) (ps : List Part) (count n : ℕ) (p : Part) → n < length ps → p ≡ get_or ps n p

@@ -8,4 +8,5 @@ use Rattle.ada_quiet.proofs.tracking.tracks_nothing.Given as goal
 -- what is left tells of all
 abbrev pub invariant-types : goal.invariant-types
 invariant-types l =
-    list_all (λ t. leaves_access t (finalization_in (Some t))) (map type_form (drop l.definition-index l.definition-items)) ≡ tracks_nothing (program_form l.program)
+    list_all (λ t. leaves_access t (finalization_in (Some t))) (map type_form (drop l.definition-index l.definition-items))
+    ≡ tracks_nothing (program_form l.program)
