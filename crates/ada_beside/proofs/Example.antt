@@ -1,8 +1,7 @@
 -- The body of an operation assigns null to the first component of its formal parameter, which is the first one of its object too; another lies beside that
 -- record.
 
-use Rattle.std.proofs.Common.{ℕ, zero, suc, Bool, true, false, List, [], ◌∷◌, Option, Some, None, refl, inr, subst}
-use Rattle.std.specs.List.{slice_get}
+use Rattle.std.proofs.Common.{ℕ, zero, suc, Bool, true, false, List, [], ◌∷◌, Some, None, refl, inr}
 use Rattle.ada_program.specs.Form.{no_stmts}
 use Rattle.ada_meaning.specs.declared.state.Id.{Id}
 use Rattle.ada_meaning.specs.declared.state.Mode.TheVariants.{Running}
@@ -14,7 +13,7 @@ use Rattle.ada_meaning.specs.Frame as frame
 use Rattle.ada_meaning.specs.Step.{places}
 use Rattle.ada_meaning.specs.Named.{Object, State, next}
 use Rattle.ada_tracked.specs.Frames.{View}
-use Rattle.ada_tracked.specs.Seen.{AreOther, IsWatched}
+use Rattle.ada_tracked.specs.Seen.{IsWatched}
 use Rattle.ada_beside.specs.Law.{LieBeside}
 use Rattle.ada_beside.specs.Example.{WritesItsRecord, PremisesAreMet}
 
@@ -76,18 +75,7 @@ apart : LieBeside view reaches beside
 apart zero reached = refl
 apart (suc d) reached = absurd (cc)
 
--- No component of an object leads to that of the formal parameter.
-abbrev AreOtherIn : Option Object → Type 0
-AreOtherIn None = Unit {0}
-AreOtherIn (Some x) = AreOther treated x.cell.values
-
--- No component of any object does so here.
-other_in : (p : ℕ) → AreOtherIn (slice_get before.heap p)
-other_in zero = (refl, (refl, tt))
-other_in (suc zero) = tt
-other_in (suc (suc p)) = tt
-
--- Nothing but the formal parameter leads to its object.
+-- The object exists, and the formal parameter refers to its record.
 watched : IsWatched view (places before) before.heap
 watched = record {
   object = an_object (shared ∷ shared ∷ []);
@@ -96,9 +84,8 @@ watched = record {
   below = tt;
   apart = tt;
   no_references = tt;
-  variables = ((refl, refl), tt);
+  formal = (refl, refl);
   count = refl;
-  components = λ p x is. subst AreOtherIn is (other_in p);
 }
 
 -- The step writes the first component, and the second one lies beside it.
@@ -107,8 +94,9 @@ unfolding next
 writes_its_record = record {
   apart = apart;
   watched = watched;
+  elsewhere = (refl, tt);
   within = (refl, tt, tt);
-  confined = record { control = (inr (refl, (0, refl, refl)), (tt, tt)); operands = (refl, tt) };
+  confined = record { control = (inr (refl, (0, refl, refl)), (tt, tt)); operands = tt };
   steps = (Followed (Names treated), refl);
   writes = (0, λ same. absurd (cc));
   lies_beside = (1, refl, (shared, refl));

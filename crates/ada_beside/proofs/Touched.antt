@@ -2,7 +2,6 @@
 
 use Rattle.std.proofs.Common.{◌≡◌, ℕ, Bool, true, false, List, [], ◌∷◌, refl, ap, ◌∙◌, inl, inr}
 use Rattle.std.specs.Prelude.{◌==◌, ◌&&◌}
-use Rattle.std.specs.List.{slice_index_or}
 use Rattle.ada_program.specs.Form.{ExpressionForm, reads, is_null, ItemForm, item_of_path, item_of_record, RightForm, value_of, assigns, assigns_record, frees, gets, StmtsForm, no_stmts, a_stmt}
 use Rattle.ada_meaning.specs.declared.state.Mode.{Mode}
 use Rattle.ada_meaning.specs.declared.state.Mode.TheVariants.{Running, Raising, Exiting, Returning}
@@ -11,18 +10,18 @@ use Rattle.ada_meaning.specs.declared.state.Value.TheVariants.{Null, Names, Scal
 use Rattle.ada_meaning.specs.Frame.{Frame, is_return}
 use Rattle.ada_meaning.specs.Frame as frame
 use Rattle.ada_meaning.specs.State.{Item, Master}
-use Rattle.ada_meaning.specs.Step.{places, operands, newest}
+use Rattle.ada_meaning.specs.Step.{places, operands, held, newest}
 use Rattle.ada_meaning.specs.Named.{Object, State, named, whole, inside}
 use Rattle.ada_tracked.specs.Frames.{View}
 use Rattle.ada_tracked.specs.Law.{NewestHousesNone, InnermostHousesNone, TakesNone}
-use Rattle.ada_tracked.specs.Seen.{IsOther, ArePlaces, IsWatched}
+use Rattle.ada_tracked.specs.Looking.{StartsElsewhere, HolderIsElsewhere, LeadsElsewhere, ExpressionLooksElsewhere, ItemsLookElsewhere, RightLooksElsewhere, StatementsLookElsewhere, NextLooksElsewhere, FirstLooksElsewhere, LooksElsewhere}
+use Rattle.ada_tracked.specs.Seen.{IsOther, awaits_holder, FormalIsFirst, IsWatched}
 use Rattle.ada_tracked.specs.Staying.{UnlessItEnds}
-use Rattle.ada_tracked.proofs.Lists.{other_first}
 use Rattle.ada_untouched.specs.Untouched.{hides, IsInSight, IsOpen, LeadsOn, LeadsToHolder, NewestHousesNoGhost, InnermostHousesNoGhost, ExpressionIsOpen, ItemsAreOpen, RightIsOpen, StatementsAreOpen, FrameIsOpen, JumpIsOpen, FirstIsOpen, Untouched}
 use Rattle.ada_untouched.specs.Unwritten.{FrameWritesShown, FirstWritesShown, Unwritten}
 use Rattle.ada_beside.specs.Confined.{IsConfinedFrom, ExpressionIsConfined, ItemsAreConfined, RightIsConfined, StatementsAreConfined, StoresReached, FrameIsConfined, BodyIsConfined, OperandsAreConfined, IsConfined}
 use Rattle.ada_beside.specs.Law.{LieBeside, hidden_beside, no_ghosts, TreatsNone, IsWithin}
-use Rattle.ada_beside.proofs.Operands.{holder_reached, receiver_reached}
+use Rattle.ada_beside.proofs.Operands.{holder_starts, start_reached}
 
 -- Any object may be looked for.
 pub in_sight : (v : Value) → IsInSight no_ghosts v
@@ -71,56 +70,66 @@ module _ (w : View) (reaches beside : ℕ → Bool) (apart : LieBeside w reaches
       ap (λ (u : Value). hides (hidden_beside w beside) u c) reached.0
       ∙ not_second (w.object.0 == w.object.0) (beside c) (ap beside reached.1.1 ∙ apart d reached.1.2)
 
-  module _ (s : State) (variables : ArePlaces w (places s)) where
+  module _ (s : State) (formal : FormalIsFirst w (places s)) where
     -- A path leads on over a component that is not hidden.
     path_open :
-        (x : ℕ) (cs : List ℕ) → IsConfinedFrom w.tracks.first reaches x cs → LeadsOn (hidden_beside w beside) no_ghosts cs (slice_index_or (places s) x Null)
-    path_open x [] from = tt
-    path_open x (c ∷ cs) from =
-        let v = slice_index_or (places s) x Null in
-        (in_sight (whole v), shown (whole v) (inside v c) (holder_reached w reaches (places s) x c cs variables from))
+        (x : ℕ) (cs : List ℕ) → IsConfinedFrom w.tracks.first reaches x cs → StartsElsewhere w.object x cs (held named s x)
+        → LeadsOn (hidden_beside w beside) no_ghosts cs (held named s x)
+    path_open x [] from starts = tt
+    path_open x (c ∷ cs) from starts =
+        let v = held named s x in
+        (in_sight (whole v), shown (whole v) (inside v c) (start_reached w reaches (places s) x c cs formal from starts))
 
     -- The way to the object of the last component of a path leads over one that is not hidden.
     holder_open :
-        (x : ℕ) (cs : List ℕ) → IsConfinedFrom w.tracks.first reaches x cs
-        → LeadsToHolder (hidden_beside w beside) no_ghosts cs (slice_index_or (places s) x Null)
-    holder_open x [] from = tt
-    holder_open x (c ∷ []) from = tt
-    holder_open x (c ∷ d ∷ cs) from =
-        let v = slice_index_or (places s) x Null in
-        (in_sight (whole v), shown (whole v) (inside v c) (holder_reached w reaches (places s) x c (d ∷ cs) variables from))
+        (x : ℕ) (cs : List ℕ) → IsConfinedFrom w.tracks.first reaches x cs → HolderIsElsewhere w.object s.heap x cs (held named s x)
+        → LeadsToHolder (hidden_beside w beside) no_ghosts cs (held named s x)
+    holder_open x [] from elsewhere = tt
+    holder_open x (c ∷ []) from elsewhere = tt
+    holder_open x (c ∷ d ∷ cs) from elsewhere =
+        let v = held named s x in
+        let starts = holder_starts w.object s.heap x (c ∷ d ∷ cs) v elsewhere in
+        (in_sight (whole v), shown (whole v) (inside v c) (start_reached w reaches (places s) x c (d ∷ cs) formal from starts))
 
     -- An expression reads no hidden component.
-    expression_open : (e : ExpressionForm) → ExpressionIsConfined w.tracks.first reaches e → ExpressionIsOpen (hidden_beside w beside) no_ghosts s e
-    expression_open (reads path) confined = path_open path.root path.selectors confined
-    expression_open (is_null equal path) confined = path_open path.root path.selectors confined
-    expression_open e confined = tt
+    expression_open :
+        (e : ExpressionForm) → ExpressionIsConfined w.tracks.first reaches e → ExpressionLooksElsewhere w.object s e
+        → ExpressionIsOpen (hidden_beside w beside) no_ghosts s e
+    expression_open (reads path) confined looks = path_open path.root path.selectors confined looks
+    expression_open (is_null equal path) confined looks = path_open path.root path.selectors confined looks
+    expression_open e confined looks = tt
 
     -- The first of some items reads no hidden component.
-    items_open : (items : List ItemForm) → ItemsAreConfined w.tracks.first reaches items → ItemsAreOpen (hidden_beside w beside) no_ghosts s items
-    items_open [] confined = tt
-    items_open (item_of_path path ∷ is) confined = path_open path.root path.selectors confined.0
-    items_open (item_of_record p ∷ is) confined = path_open p.object.root p.object.selectors confined.0
-    items_open (i ∷ is) confined = tt
+    items_open :
+        (items : List ItemForm) → ItemsAreConfined w.tracks.first reaches items → ItemsLookElsewhere w.object s items
+        → ItemsAreOpen (hidden_beside w beside) no_ghosts s items
+    items_open [] confined looks = tt
+    items_open (item_of_path path ∷ is) confined looks = path_open path.root path.selectors confined.0 looks
+    items_open (item_of_record p ∷ is) confined looks = path_open p.object.root p.object.selectors confined.0 looks
+    items_open (i ∷ is) confined looks = tt
 
     -- What is assigned reads no hidden component.
-    right_open : (right : RightForm) → RightIsConfined w.tracks.first reaches right → RightIsOpen (hidden_beside w beside) no_ghosts s right
-    right_open (value_of path) confined = path_open path.root path.selectors confined
-    right_open right confined = tt
+    right_open :
+        (right : RightForm) → RightIsConfined w.tracks.first reaches right → RightLooksElsewhere w.object s right
+        → RightIsOpen (hidden_beside w beside) no_ghosts s right
+    right_open (value_of path) confined looks = path_open path.root path.selectors confined looks
+    right_open right confined looks = tt
 
     -- A statement looks at no hidden component as it begins.
-    statements_open : (fs : StmtsForm) → StatementsAreConfined w.tracks.first reaches fs → StatementsAreOpen (hidden_beside w beside) no_ghosts s fs
-    statements_open no_stmts confined = tt
-    statements_open (a_stmt (assigns target right) fs) confined = holder_open target.root target.selectors confined.0.0
-    statements_open (a_stmt (assigns_record target items) fs) confined = absurd confined.0
-    statements_open (a_stmt (frees access path) fs) confined = absurd confined.0
-    statements_open (a_stmt (gets target) fs) confined = holder_open target.root target.selectors confined.0
-    statements_open (a_stmt f fs) confined = tt
+    statements_open :
+        (fs : StmtsForm) → StatementsAreConfined w.tracks.first reaches fs → StatementsLookElsewhere w.object s fs
+        → StatementsAreOpen (hidden_beside w beside) no_ghosts s fs
+    statements_open no_stmts confined looks = tt
+    statements_open (a_stmt (assigns target right) fs) confined looks = holder_open target.root target.selectors confined.0.0 looks
+    statements_open (a_stmt (assigns_record target items) fs) confined looks = absurd confined.0
+    statements_open (a_stmt (frees access path) fs) confined looks = absurd confined.0
+    statements_open (a_stmt (gets target) fs) confined looks = holder_open target.root target.selectors confined.0 looks
+    statements_open (a_stmt f fs) confined looks = tt
 
     -- Components are followed from an operand that leads elsewhere.
-    followed_open : (cs : List ℕ) (v : Value) → IsOther w.object v → IsOpen (hidden_beside w beside) no_ghosts cs v
-    followed_open [] v other = tt
-    followed_open (c ∷ cs) v other = (in_sight v, shown_other v c other)
+    followed_open : (awaits : Bool) (cs : List ℕ) (v : Value) → LeadsElsewhere w.object s.heap awaits cs v → IsOpen (hidden_beside w beside) no_ghosts cs v
+    followed_open awaits [] v leads = tt
+    followed_open awaits (c ∷ cs) v leads = (in_sight v, shown_other v c leads.0)
 
     -- A record is copied out of an object to which an operand leads, if that leads elsewhere.
     copied_open : (v : Value) → IsOther w.object v → IsInSight no_ghosts v × ((component : ℕ) → hides (hidden_beside w beside) v component ≡ false)
@@ -128,31 +137,31 @@ module _ (w : View) (reaches beside : ℕ → Bool) (apart : LieBeside w reaches
 
     -- A frame looks at no hidden component.
     frame_open :
-        (f : Frame Value) (k : List (Frame Value)) → FrameIsConfined w reaches f → OperandsAreConfined w reaches Running (f ∷ k) (operands s)
-        → TreatsNone f → TakesNone f s.masters → FrameIsOpen (hidden_beside w beside) no_ghosts s f
-    frame_open (frame.Does fs) k confined others untreated none = statements_open fs confined
-    frame_open (frame.Leaves mode) k confined others untreated none = innermost_no_ghost s.heap s.masters none
-    frame_open (frame.Evaluates right) k confined others untreated none = right_open right confined
-    frame_open (frame.Computes e) k confined others untreated none = expression_open e confined
-    frame_open (frame.Follows cs) k confined others untreated none = followed_open cs (newest named s) (other_first w.object (operands s) others)
-    frame_open (frame.Refers p) k confined others untreated none = absurd confined
-    frame_open (frame.RefersIn place t) k confined others untreated none = absurd confined
-    frame_open (frame.Opens path) k confined others untreated none = absurd confined
-    frame_open (frame.OpensIn c) k confined others untreated none = absurd confined
-    frame_open (frame.Fills items) k confined others untreated none = items_open items confined
-    frame_open (frame.Copies c t) k confined others untreated none = copied_open (newest named s) (other_first w.object (operands s) others)
-    frame_open (frame.Targets c right) k confined others untreated none = in_sight (newest named s)
-    frame_open (frame.StoresIn v c) k confined others untreated none = in_sight v
-    frame_open (frame.TargetsRecord c t items) k confined others untreated none = absurd confined
-    frame_open (frame.StoresRecord v c count) k confined others untreated none = absurd confined
-    frame_open (frame.Receives c) k confined others untreated none = in_sight (newest named s)
-    frame_open (frame.FreesIn access c) k confined others untreated none = absurd confined
-    frame_open (frame.Treats v treatment tasks) k confined others untreated none = absurd untreated
-    frame_open (frame.Awaits v by done of part tasks) k confined others untreated none = absurd confined
-    frame_open (frame.Ends v) k confined others untreated none = absurd confined
-    frame_open (frame.GivesBack v cause pool) k confined others untreated none = absurd confined
-    frame_open (frame.ClearsIn v c) k confined others untreated none = absurd confined
-    frame_open f k confined others untreated none = tt
+        (f : Frame Value) (k : List (Frame Value)) → FrameIsConfined w reaches f → NextLooksElsewhere w.object s f k → TreatsNone f → TakesNone f s.masters
+        → FrameIsOpen (hidden_beside w beside) no_ghosts s f
+    frame_open (frame.Does fs) k confined looks untreated none = statements_open fs confined looks.1
+    frame_open (frame.Leaves mode) k confined looks untreated none = innermost_no_ghost s.heap s.masters none
+    frame_open (frame.Evaluates right) k confined looks untreated none = right_open right confined looks.1
+    frame_open (frame.Computes e) k confined looks untreated none = expression_open e confined looks.1
+    frame_open (frame.Follows cs) k confined looks untreated none = followed_open (awaits_holder k) cs (newest named s) looks
+    frame_open (frame.Refers p) k confined looks untreated none = absurd confined
+    frame_open (frame.RefersIn place t) k confined looks untreated none = absurd confined
+    frame_open (frame.Opens path) k confined looks untreated none = absurd confined
+    frame_open (frame.OpensIn c) k confined looks untreated none = absurd confined
+    frame_open (frame.Fills items) k confined looks untreated none = items_open items confined looks.1
+    frame_open (frame.Copies c t) k confined looks untreated none = copied_open (newest named s) looks.1
+    frame_open (frame.Targets c right) k confined looks untreated none = in_sight (newest named s)
+    frame_open (frame.StoresIn v c) k confined looks untreated none = in_sight v
+    frame_open (frame.TargetsRecord c t items) k confined looks untreated none = absurd confined
+    frame_open (frame.StoresRecord v c count) k confined looks untreated none = absurd confined
+    frame_open (frame.Receives c) k confined looks untreated none = in_sight (newest named s)
+    frame_open (frame.FreesIn access c) k confined looks untreated none = absurd confined
+    frame_open (frame.Treats v treatment tasks) k confined looks untreated none = absurd untreated
+    frame_open (frame.Awaits v by done of part tasks) k confined looks untreated none = absurd confined
+    frame_open (frame.Ends v) k confined looks untreated none = absurd confined
+    frame_open (frame.GivesBack v cause pool) k confined looks untreated none = absurd confined
+    frame_open (frame.ClearsIn v c) k confined looks untreated none = absurd confined
+    frame_open f k confined looks untreated none = tt
 
     -- A jump looks at no object.
     jump_open : (f : Frame Value) → JumpIsOpen (hidden_beside w beside) no_ghosts s f
@@ -161,47 +170,48 @@ module _ (w : View) (reaches beside : ℕ → Bool) (apart : LieBeside w reaches
 
     -- The first of what is left to do looks at no hidden component, in any mode.
     first_open :
-        (m : Mode) (k : List (Frame Value)) → BodyIsConfined w reaches k → OperandsAreConfined w reaches m k (operands s) → IsWithin k s.masters
+        (m : Mode) (k : List (Frame Value)) → BodyIsConfined w reaches k → FirstLooksElsewhere w.object s m k → IsWithin k s.masters
         → FirstIsOpen (hidden_beside w beside) no_ghosts s m k
-    first_open Running [] confined others within = tt
-    first_open Running (f ∷ k) confined others within =
-        frame_open f k (unless_it_ends (is_return f) (FrameIsConfined w reaches f × BodyIsConfined w reaches k) within.0 confined).0 others within.1 within.2
-    first_open (Raising e) [] confined others within = tt
-    first_open (Raising e) (f ∷ k) confined others within = jump_open f
-    first_open Exiting [] confined others within = tt
-    first_open Exiting (f ∷ k) confined others within = jump_open f
-    first_open Returning [] confined others within = tt
-    first_open Returning (f ∷ k) confined others within = jump_open f
+    first_open Running [] confined looks within = tt
+    first_open Running (f ∷ k) confined looks within =
+        frame_open f k (unless_it_ends (is_return f) (FrameIsConfined w reaches f × BodyIsConfined w reaches k) within.0 confined).0 looks within.1 within.2
+    first_open (Raising e) [] confined looks within = tt
+    first_open (Raising e) (f ∷ k) confined looks within = jump_open f
+    first_open Exiting [] confined looks within = tt
+    first_open Exiting (f ∷ k) confined looks within = jump_open f
+    first_open Returning [] confined looks within = tt
+    first_open Returning (f ∷ k) confined looks within = jump_open f
 
     -- A frame writes no hidden component.
     frame_shown :
         (f : Frame Value) (k : List (Frame Value)) → FrameIsConfined w reaches f → OperandsAreConfined w reaches Running (f ∷ k) (operands s)
         → FrameWritesShown (hidden_beside w beside) s f
-    frame_shown (frame.StoresIn v c) k confined others = shown v c confined
-    frame_shown (frame.StoresRecord v c count) k confined others = absurd confined
-    frame_shown (frame.Receives c) k confined others = shown (newest named s) c (receiver_reached w reaches c k (operands s) others).0
-    frame_shown (frame.ClearsIn v c) k confined others = absurd confined
-    frame_shown f k confined others = tt
+    frame_shown (frame.StoresIn v c) k confined reached = shown v c confined
+    frame_shown (frame.StoresRecord v c count) k confined reached = absurd confined
+    frame_shown (frame.Receives c) k confined reached = shown (newest named s) c reached
+    frame_shown (frame.ClearsIn v c) k confined reached = absurd confined
+    frame_shown f k confined reached = tt
 
     -- The first of what is left to do writes no hidden component, in any mode.
     first_shown :
         (m : Mode) (k : List (Frame Value)) → BodyIsConfined w reaches k → OperandsAreConfined w reaches m k (operands s) → IsWithin k s.masters
         → FirstWritesShown (hidden_beside w beside) s m k
-    first_shown Running [] confined others within = tt
-    first_shown Running (f ∷ k) confined others within =
-        frame_shown f k (unless_it_ends (is_return f) (FrameIsConfined w reaches f × BodyIsConfined w reaches k) within.0 confined).0 others
-    first_shown (Raising e) [] confined others within = tt
-    first_shown (Raising e) (f ∷ k) confined others within = tt
-    first_shown Exiting [] confined others within = tt
-    first_shown Exiting (f ∷ k) confined others within = tt
-    first_shown Returning [] confined others within = tt
-    first_shown Returning (f ∷ k) confined others within = tt
+    first_shown Running [] confined reached within = tt
+    first_shown Running (f ∷ k) confined reached within =
+        frame_shown f k (unless_it_ends (is_return f) (FrameIsConfined w reaches f × BodyIsConfined w reaches k) within.0 confined).0 reached
+    first_shown (Raising e) [] confined reached within = tt
+    first_shown (Raising e) (f ∷ k) confined reached within = tt
+    first_shown Exiting [] confined reached within = tt
+    first_shown Exiting (f ∷ k) confined reached within = tt
+    first_shown Returning [] confined reached within = tt
+    first_shown Returning (f ∷ k) confined reached within = tt
 
   -- The next step of a confined body looks at no hidden component.
   pub untouched :
-      (s : State) → IsWatched w (places s) s.heap → IsWithin s.control s.masters → IsConfined w reaches s → Untouched (hidden_beside w beside) no_ghosts s
-  untouched s p within confined = first_open s p.variables s.mode s.control confined.control confined.operands within
+      (s : State) → IsWatched w (places s) s.heap → LooksElsewhere w s → IsWithin s.control s.masters → IsConfined w reaches s
+      → Untouched (hidden_beside w beside) no_ghosts s
+  untouched s p looks within confined = first_open s p.formal s.mode s.control confined.control looks within
 
   -- The next step of a confined body writes no hidden component.
   pub unwritten : (s : State) → IsWatched w (places s) s.heap → IsWithin s.control s.masters → IsConfined w reaches s → Unwritten (hidden_beside w beside) s
-  unwritten s p within confined = first_shown s p.variables s.mode s.control confined.control confined.operands within
+  unwritten s p within confined = first_shown s p.formal s.mode s.control confined.control confined.operands within

@@ -7,13 +7,13 @@ use Rattle.ada_program.specs.Form.{PathForm, ExpressionForm, integer, boolean, r
 use Rattle.ada_meaning.specs.declared.state.Mode.{Mode}
 use Rattle.ada_meaning.specs.declared.state.Mode.TheVariants.{Running}
 use Rattle.ada_meaning.specs.declared.state.Value.{Value}
-use Rattle.ada_meaning.specs.declared.state.Value.TheVariants.{Names}
+use Rattle.ada_meaning.specs.declared.state.Value.TheVariants.{Null, Names}
 use Rattle.ada_meaning.specs.Frame.{Frame, is_return}
 use Rattle.ada_meaning.specs.Frame as frame
-use Rattle.ada_meaning.specs.Step.{operands}
+use Rattle.ada_meaning.specs.Step.{first_or, operands}
 use Rattle.ada_meaning.specs.Named.{State}
 use Rattle.ada_tracked.specs.Frames.{View}
-use Rattle.ada_tracked.specs.Seen.{IsOther, AreOther}
+use Rattle.ada_tracked.specs.Seen.{IsOther}
 use Rattle.ada_tracked.specs.Simple.{IsVariable}
 use Rattle.ada_tracked.specs.Staying.{UnlessItEnds}
 
@@ -179,12 +179,12 @@ abbrev pub BodyIsConfined : View → (reaches : ℕ → Bool) → List (Frame Va
 BodyIsConfined w reaches [] = Unit {0}
 BodyIsConfined w reaches (f ∷ k) = UnlessItEnds (is_return f) (FrameIsConfined w reaches f × BodyIsConfined w reaches k)
 
--- No operand leads to the object; but where a component is about to be assigned or read to, and no jump is on its way, the newest one may, if that component is
--- one that the body may reach.
+-- Where a component is about to be assigned or read to, and no jump is on its way, the newest operand leads to another object, or that component is one that the
+-- body may reach.
 abbrev pub OperandsAreConfined : View → (reaches : ℕ → Bool) → Mode → List (Frame Value) → (operands : List Value) → Type 0
-OperandsAreConfined w reaches Running (frame.Targets c right ∷ k) (v ∷ vs) = StoresReached w reaches v c × AreOther w.object vs
-OperandsAreConfined w reaches Running (frame.Receives c ∷ k) (v ∷ vs) = StoresReached w reaches v c × AreOther w.object vs
-OperandsAreConfined w reaches m k vs = AreOther w.object vs
+OperandsAreConfined w reaches Running (frame.Targets c right ∷ k) vs = StoresReached w reaches (first_or Null vs) c
+OperandsAreConfined w reaches Running (frame.Receives c ∷ k) vs = StoresReached w reaches (first_or Null vs) c
+OperandsAreConfined w reaches m k vs = Unit {0}
 
 -- The body of an operation runs that is so.
 pub record IsConfined (w : View) (reaches : ℕ → Bool) (s : State) : Type 0 where

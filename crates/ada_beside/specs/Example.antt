@@ -8,6 +8,7 @@ use Rattle.ada_meaning.specs.Named.{State, object_at, next}
 use Rattle.ada_meaning.specs.Records.{component_in}
 use Rattle.ada_meaning.specs.Run.{Event}
 use Rattle.ada_tracked.specs.Frames.{View}
+use Rattle.ada_tracked.specs.Looking.{LooksElsewhere}
 use Rattle.ada_tracked.specs.Seen.{IsWatched}
 use Rattle.ada_beside.specs.Confined.{IsConfined}
 use Rattle.ada_beside.specs.Law.{LieBeside, IsWithin}
@@ -20,6 +21,7 @@ HoldsElse before after w c = component_in (object_at before.heap w.object) c ≡
 pub record WritesItsRecord (types : List TypeDefinition) (bodies : List BodyForm) (w : View) (reaches beside : ℕ → Bool) (s after : State) : Type 0 where
   pub apart : LieBeside w reaches beside
   pub watched : IsWatched w (places s) s.heap
+  pub elsewhere : LooksElsewhere w s
   pub within : IsWithin s.control s.masters
   pub confined : IsConfined w reaches s
   pub steps : (e : Event) × (next types bodies s ≡ moves e after)

@@ -1,5 +1,5 @@
 -- Where no body breaks a rule on operations, the end of an object uses none of its own access type, and none of one whose collection is created later, and its
--- adjustment frees none of its own; and a test of a program for those of later ones.
+-- adjustment frees none of its own and follows no value of that type; and tests of a program for those of later ones, and for what adjustments follow.
 
 use Rattle.std.proofs.Common.{◌≡◌, ℕ, ◌<◌, zero, suc, Bool, true, false, ◌&&◌, ◌||◌, nat_lt, length, refl, sym, ap, ◌∙◌, subst, ◌⊎◌, inl, inr, arith}
 use Rattle.std.proofs.lemmas.Bool.{cases_eq, cases_lt, and_parts, or_cases, ltb-true}
@@ -18,12 +18,13 @@ use Rattle.ada_deeds.specs.declared.deed.Operation.{Operation}
 use Rattle.ada_deeds.specs.declared.deed.Operation.TheVariants.{Adjust, Finalize}
 use Rattle.ada_deeds.proofs.Within.{counts_are_enough, is_one_of}
 use Rattle.ada_operations.specs.Created.{collections_of, place_of, is_created_before}
-use Rattle.ada_operations.specs.Laws.{OperationDoes, EndsSpareNewer}
+use Rattle.ada_operations.specs.Laws.{AdjustsSpareTheirOwn, OperationDoes, EndsSpareNewer}
 use Rattle.ada_operations.specs.Operations.{Overrides, AdjustsOrFinalizes, Uses, IsFirstFault}
 use Rattle.ada_operations.specs.declared.rule.OperationRule.TheVariants.{FinalizeOrder}
 use Rattle.ada_operations.proofs.Orders.{later_order}
-use Rattle.ada_operations.proofs.Parts.{adjusts_free, ends_reach}
+use Rattle.ada_operations.proofs.Parts.{adjusts_free, ends_reach, told}
 use Rattle.ada_program.specs.declared.program.ProcedureNo.{ProcedureNo}
+use Rattle.ada_program.specs.declared.program.TypeNo.{TypeNo}
 use Rattle.ada_program.specs.ProgramForm.{TypeForm, record_of, access_to, object_of, BodyForm, ProgramForm}
 use Rattle.ada_program.specs.WellFormed.{is_access, designated_type, designated_in, components_in, object_in}
 
@@ -50,6 +51,19 @@ designates u whole (Some (access_to name designated pool)) access (inr (inl is))
 designates u whole (Some (access_to name designated pool)) access (inr (inr is)) = absurd (cc is)
 designates u whole (Some (object_of record_type)) access h = absurd (cc access)
 
+-- No collection is created before itself.
+not_before_own : (p : ProgramForm) (t : ℕ) → is_created_before (collections_of p) t t ≡ false
+not_before_own p t = later_order.apart (place_of (collections_of p) t)
+
+-- An Adjust that follows a value of an access type where an object of that type is adjusted would follow it too late.
+pub adjusts_spared : AdjustsSpareTheirOwn
+adjusts_spared p none access whole designated done =
+    let d : Deed = Follows (record { 0 = access }) in
+    let (r, q, lies, overrides, follows) = told p d (callee.Parts Adjust whole) done in
+    let (b, at) = body_there p d q follows in
+    none (b.start_spot, FinalizeOrder)
+    (q, b, at, refl, (r, inl overrides, (access, inr follows, (access, whole.0, designated, lies, not_before_own p access))))
+
 module _ (p : ProgramForm) (none : IsFirstFault p None) (t : ℕ) (access : is_access p.types t ≡ true) where
   -- No operation that Adjust or Finalize is uses a type, by some deed, whose collection is not created before that of the type for whose objects it is called
   -- (7.6.1).
@@ -68,15 +82,11 @@ module _ (p : ProgramForm) (none : IsFirstFault p None) (t : ℕ) (access : is_a
       by (inl frees) = uses_older Finalize (Frees (record { 0 = u })) u (λ q r is. inr is) (λ q does. inl does) late frees
       by (inr follows) = uses_older Finalize (Follows (record { 0 = u })) u (λ q r is. inr is) (λ q does. inr does) late follows
 
-  -- No collection is created before itself.
-  not_before_own : is_created_before (collections_of p) t t ≡ false
-  not_before_own = later_order.apart (place_of (collections_of p) t)
-
   pub spared : ((implicit_of p).end_reaches t t ≡ false) × ((implicit_of p).adjust_frees t t ≡ false)
   spared = (
-    not_so ((implicit_of p).end_reaches t t) (reaches_none t not_before_own),
+    not_so ((implicit_of p).end_reaches t t) (reaches_none t (not_before_own p t)),
     not_so ((implicit_of p).adjust_frees t t)
-        (λ h. uses_older Adjust (Frees (record { 0 = t })) t (λ q r is. inl is) (λ q does. inl does) not_before_own ((adjusts_free p t t).0 h)),
+        (λ h. uses_older Adjust (Frees (record { 0 = t })) t (λ q r is. inl is) (λ q does. inl does) (not_before_own p t) ((adjusts_free p t t).0 h)),
   )
 
 -- So what it uses is of types whose collections are created before that of its own.
@@ -87,7 +97,7 @@ spared_newer p none t u access reached = by (is_created_before (collections_of p
     by true is = is
     by false late = absurd (reaches_none p none t access u late reached)
 
--- A test of a program.
+-- Tests of a program.
 
 -- Where an object of a type ends, is what is reached of types whose collections are created before that of its own: of so many types?
 abbrev pub reaches_older : ProgramForm → (access count : ℕ) → Bool
@@ -168,3 +178,37 @@ module _ (p : ProgramForm) where
       is_created_before (collections_of p) u t ≡ true
   older_by all t u access reached =
       older_among t (length p.types) (access_among (length p.types) all t (access_there t access) access) u (reached_there t u reached) reached
+
+-- Where an object of a type is adjusted, if that is an access type, is no value of it followed?
+abbrev pub adjusts_aside : ProgramForm → (access : ℕ) → (designated : Option ℕ) → Bool
+adjusts_aside p t None = true
+adjusts_aside p t (Some whole) = not (does_by p (Follows (record { 0 = t })) (callee.Parts Adjust (record { 0 = whole })))
+
+-- Is it so with each of so many types?
+abbrev pub adjust_aside_up_to : ProgramForm → (count : ℕ) → Bool
+adjust_aside_up_to p zero = true
+adjust_aside_up_to p (suc n) = adjusts_aside p n (designated_type p.types n) && adjust_aside_up_to p n
+
+-- Is it so with all its types?
+abbrev pub adjust_aside : ProgramForm → Bool
+adjust_aside p = adjust_aside_up_to p (length p.types)
+
+module _ (p : ProgramForm) where
+  aside_among : (count : ℕ) → adjust_aside_up_to p count ≡ true → (t : ℕ) → t < count → adjusts_aside p t (designated_type p.types t) ≡ true
+  aside_among zero all t below = absurd (omega (arith, below))
+  aside_among (suc n) all t below =
+      let both = and_parts (adjusts_aside p n (designated_type p.types n)) (adjust_aside_up_to p n) all in
+      elim (cases_eq t n) [
+        | inl same ↦ subst (λ (v : ℕ). adjusts_aside p v (designated_type p.types v) ≡ true) (sym same) both.0
+        | inr other ↦ aside_among n both.1 t (omega (arith, below, other))
+      ]
+
+  -- In a program that passes the test, no value of an access type is followed where an object is adjusted that is of that type.
+  pub aside_by : adjust_aside p ≡ true → (access : ℕ) (whole : TypeNo) → designated_type p.types access ≡ Some whole.0
+      → ¬ (Does p (Follows (record { 0 = access })) (callee.Parts Adjust whole))
+  aside_by all access whole designated done =
+      let there : access < length p.types = access_there p access (ap (λ (o : Option ℕ). is_some o) designated) in
+      let passed = aside_among (length p.types) all access there in
+      let named : not (does_by p (Follows (record { 0 = access })) (callee.Parts Adjust whole)) ≡ true =
+      sym (ap (adjusts_aside p access) designated) ∙ passed in
+      cc (sym (ap not ((counts_are_enough p (Follows (record { 0 = access })) (callee.Parts Adjust whole)).1 done)) ∙ named)

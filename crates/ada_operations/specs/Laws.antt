@@ -15,6 +15,7 @@ use Rattle.ada_operations.specs.Operations.{Overrides, HasPart, IsFirstFault, Pr
 use Rattle.ada_operations.specs.declared.rule.OperationRule.{OperationRule}
 use Rattle.ada_program.specs.declared.program.Exception.{Exception}
 use Rattle.ada_program.specs.declared.program.ProcedureNo.{ProcedureNo}
+use Rattle.ada_program.specs.declared.program.TypeNo.{TypeNo}
 use Rattle.ada_program.specs.ProgramForm.{TypeForm, ProgramForm}
 use Rattle.ada_program.specs.WellFormed.{IsWellFormed, designated_type, is_access, is_record, object_in}
 use Rattle.ada_quiet.specs.Quiet.{operations_are_quiet}
@@ -79,6 +80,11 @@ EndsReachWhatPartsUse = (p : ProgramForm) (u t : ℕ) →
 abbrev pub EndsSpareTheirOwn : Type 0
 EndsSpareTheirOwn = (p : ProgramForm) → IsFirstFault p None → (t : ℕ) → is_access p.types t ≡ true →
     ((implicit_of p).end_reaches t t ≡ false) × ((implicit_of p).adjust_frees t t ≡ false)
+
+-- Nor is a value of an access type followed where an object is adjusted that is of that type (7.6).
+abbrev pub AdjustsSpareTheirOwn : Type 0
+AdjustsSpareTheirOwn = (p : ProgramForm) → IsFirstFault p None → (access : ℕ) (whole : TypeNo) → designated_type p.types access ≡ Some whole.0
+    → ¬ (Does p (Follows (record { 0 = access })) (callee.Parts Adjust whole))
 
 -- And it is of types whose collections are created before that of its own: none that is created later, of which the objects may be gone by then (7.6.1).
 abbrev pub EndsSpareNewer : Type 0

@@ -3,7 +3,7 @@
 
 ghost use Rattle.ada_operations.specs.Example.{AllAreBroken, NoneIsBroken, PartsOfPartsCount};
 ghost use Rattle.ada_operations.specs.Laws.{OneIsFirst, QuietOperationsDoNothing, QuietOperationsObey};
-ghost use Rattle.ada_operations.specs.Laws.{AdjustsFreeWhatPartsFree, EndsFreeWhatPartsFree, EndsReachWhatPartsUse, EndsSpareNewer, EndsSpareTheirOwn};
+ghost use Rattle.ada_operations.specs.Laws.{AdjustsFreeWhatPartsFree, AdjustsSpareTheirOwn, EndsFreeWhatPartsFree, EndsReachWhatPartsUse, EndsSpareNewer, EndsSpareTheirOwn};
 ghost use Rattle.ada_operations.specs.Laws.{ObeyingPropagatesNothing, StartsFreeWhatPartsFree, StartsRaiseWhatPartsRaise};
 
 /// A program has its first fault, or none: not two of these.
@@ -41,6 +41,12 @@ pub fn implicit_calls_are_those_of_all_parts()
 /// its adjustment frees none: what they use lies in a collection that is created before its own (S8).
 pub fn ends_spare_their_own()
     ensures { EndsSpareTheirOwn }
+{}
+
+/// Where no body breaks a rule, the adjustment of an object follows no value of an access type whose objects it is one of: what is followed
+/// there lies in a collection that is created before its own (S8).
+pub fn adjusts_spare_their_own()
+    ensures { AdjustsSpareTheirOwn }
 {}
 
 /// Where no body breaks a rule, what the end of an object of an access type frees or follows is of access types whose collections are

@@ -8,7 +8,7 @@ use Rattle.ada_program.specs.declared.program.VariableKind.{VariableKind}
 use Rattle.ada_program.specs.declared.program.VariableKind.TheVariants as variable
 use Rattle.ada_program.specs.ProgramForm.{TypeForm, VariableForm, BodyForm}
 use Rattle.ada_program.specs.WellFormed.{variable_kind}
-use Rattle.ada_quiet.specs.Simple.{is_simple_right, is_simple_declaration, are_simple_declarations, is_simple_stmt, are_simple, are_simple_branches, are_simple_handlers, is_calm_kind, is_simple_body}
+use Rattle.ada_quiet.specs.Simple.{is_simple_right, is_simple_declaration, are_simple_declarations, is_simple_stmt, are_simple, are_simple_branches, are_simple_handlers, holds_one_value, is_simple_body}
 use Rattle.ada_quiet.specs.Quiet.{is_elementary, holds_elementary, is_quiet_path, is_quiet_expression, is_quiet_condition, is_quiet_right, is_quiet_declaration, are_quiet_declarations, is_quiet_stmt, are_quiet, are_quiet_branches, are_quiet_handlers, is_quiet_body}
 use Rattle.ada_quiet.proofs.InUse.{plain_body, second_of_both, others}
 
@@ -82,28 +82,26 @@ module _ (types known : List TypeForm) (may_free : Bool) (variables : List Varia
         others (are_quiet types variables fs) (are_quiet_handlers types variables hs) (are_simple known may_free fs) (are_simple_handlers known may_free hs)
         (stmts_simple fs) (handlers_simple hs) quiet
 
--- What holds an Integer or a Boolean is no record, and of no access type.
-calm_kind : (known : List TypeForm) (calm : List Bool) (kind : VariableKind) → is_elementary kind ≡ true → is_calm_kind known calm kind ≡ true
-calm_kind known calm variable.Integer h = refl
-calm_kind known calm variable.Boolean h = refl
-calm_kind known calm (variable.Access access) h = absurd (cc h)
-calm_kind known calm (variable.Record object) h = absurd (cc h)
+-- What holds an Integer or a Boolean is no record.
+one_value : (kind : VariableKind) → is_elementary kind ≡ true → holds_one_value kind ≡ true
+one_value variable.Integer h = refl
+one_value variable.Boolean h = refl
+one_value (variable.Access access) h = absurd (cc h)
+one_value (variable.Record object) h = absurd (cc h)
 
-calm_kinds : (known : List TypeForm) (calm : List Bool) (xs : List VariableForm) → list_all (λ x. is_elementary x.kind) xs ≡ true
-    → list_all (λ x. is_calm_kind known calm x.kind) xs ≡ true
-calm_kinds known calm [] h = refl
-calm_kinds known calm (x ∷ xs) h =
-    others (is_elementary x.kind) (list_all (λ y. is_elementary y.kind) xs) (is_calm_kind known calm x.kind) (list_all (λ y. is_calm_kind known calm y.kind) xs)
-    (calm_kind known calm x.kind) (calm_kinds known calm xs) h
+one_value_each : (xs : List VariableForm) → list_all (λ x. is_elementary x.kind) xs ≡ true → list_all (λ x. holds_one_value x.kind) xs ≡ true
+one_value_each [] h = refl
+one_value_each (x ∷ xs) h =
+    others (is_elementary x.kind) (list_all (λ y. is_elementary y.kind) xs) (holds_one_value x.kind) (list_all (λ y. holds_one_value y.kind) xs)
+    (one_value x.kind) (one_value_each xs) h
 
 -- No exception comes out of a quiet body: of a simple one this is not asked.
-pub simple_body : (types known : List TypeForm) (calm : List Bool) (may_free : Bool) (b : BodyForm) → is_quiet_body types b ≡ true
-    → is_simple_body known calm may_free b ≡ true
-simple_body types known calm may_free b quiet =
+pub simple_body : (types known : List TypeForm) (may_free : Bool) (b : BodyForm) → is_quiet_body types b ≡ true → is_simple_body known may_free b ≡ true
+simple_body types known may_free b quiet =
     others (elementary && declarations && statements) handlers (plain && are_simple_declarations known b.declarations && are_simple known may_free b.statements)
     (are_simple_handlers known may_free b.handlers)
     (others (elementary && declarations) statements (plain && are_simple_declarations known b.declarations) (are_simple known may_free b.statements)
-    (others elementary declarations plain (are_simple_declarations known b.declarations) (calm_kinds known calm (drop 1 b.variables))
+    (others elementary declarations plain (are_simple_declarations known b.declarations) (one_value_each (drop 1 b.variables))
     (declarations_simple types known may_free b.variables b.declarations))
     (stmts_simple types known may_free b.variables b.statements))
     (handlers_simple types known may_free b.variables b.handlers)
@@ -113,7 +111,7 @@ simple_body types known calm may_free b quiet =
     elementary = list_all (λ x. is_elementary x.kind) (drop 1 b.variables)
 
     plain : Bool
-    plain = list_all (λ x. is_calm_kind known calm x.kind) (drop 1 b.variables)
+    plain = list_all (λ x. holds_one_value x.kind) (drop 1 b.variables)
 
     declarations : Bool
     declarations = are_quiet_declarations types b.variables b.declarations

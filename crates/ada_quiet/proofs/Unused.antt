@@ -14,7 +14,6 @@ use Rattle.ada_program.specs.ProgramForm.{TypeForm, BodyForm, ProgramForm}
 use Rattle.ada_program.specs.WellFormed.{finalization_in, finalization_of}
 use Rattle.ada_quiet.specs.First.{initializes_in_use, adjusts_in_use, finalizes_in_use, IsUnused, BeginsUnused, HasUnused, stands_before, IsFirst, first_of, start_unless, unused_in}
 use Rattle.ada_quiet.specs.Frugal.{is_frugal_operation}
-use Rattle.ada_quiet.specs.Calm.{calmly_copied_types}
 use Rattle.ada_quiet.specs.Simple.{is_simple_procedure}
 use Rattle.ada_quiet.specs.InUse.{adjusts_alone, adjusts_nothing, may_adjust_frugally, may_be_frugal, may_track, uses_initialize, uses_adjust, uses_finalize, uses_operations, operations_are_idle, operations_may_be_called, operations_are_in_use}
 use Rattle.ada_quiet.specs.Quiet.{is_quiet_body, is_plain_procedure, is_quiet_procedure, is_quiet_operation, has_quiet_operations, has_access, operation_body, adjust_body, operations_are_quiet}
@@ -106,7 +105,7 @@ abbrev adjusted_procedure : ProgramForm → (owns : Bool) → (procedure : Proce
 adjusted_procedure p owns procedure o =
     (adjusts_nothing p && is_frugal_operation p (Some procedure))
     || (if owns && is_some o
-    then may_track p && is_simple_procedure p.types (calmly_copied_types p) (adjusts_alone p) o
+    then may_track p && is_simple_procedure p.types (adjusts_alone p) o
     else is_quiet_procedure p.types o || (may_adjust_frugally p && is_frugal_operation p (Some procedure)))
 
 adjusted_body : (p : ProgramForm) (owns : Bool) (procedure : ProcedureNo) (b : BodyForm)

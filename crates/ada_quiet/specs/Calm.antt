@@ -1,16 +1,14 @@
 -- Record types and access types whose objects are calm: no operation that is asked about is called for them, neither for an object itself nor for a part of it
 -- (7.6).
 
-use Rattle.std.specs.Prelude.{ℕ, zero, suc, Bool, true, false, not, ◌&&◌, List, [], ◌∷◌, ◌++◌, find, Option, Some, None}
+use Rattle.std.specs.Prelude.{ℕ, zero, suc, Bool, true, false, ◌&&◌, List, [], ◌∷◌, ◌++◌, find, Option, Some, None}
 use Rattle.std.specs.List.{list_all, slice_get, slice_index_or}
-use Rattle.ada_program.specs.declared.program.ComponentKind.{ComponentKind}
-use Rattle.ada_program.specs.declared.program.ComponentKind.TheVariants as component
 use Rattle.ada_program.specs.declared.program.Finalization.{Finalization}
 use Rattle.ada_program.specs.declared.program.PartKind.{PartKind}
 use Rattle.ada_program.specs.declared.program.PartKind.TheVariants as part
 use Rattle.ada_program.specs.ProgramForm.{TypeForm, record_of, access_to, object_of, ProgramForm}
 use Rattle.ada_program.specs.WellFormed.{finalization_in, finalization_of, has_number, numbered_types, overrides_nothing}
-use Rattle.ada_quiet.specs.Quiet.{adjusts_access, is_plain_operation, is_quiet_operation}
+use Rattle.ada_quiet.specs.Quiet.{is_plain_operation, is_quiet_operation}
 
 -- Neither operation of a type that begins or ends an object touches storage: what overrides Initialize is plain, and what overrides Finalize is quiet (7.6).
 abbrev pub ends_calmly : ProgramForm → Option Finalization → Bool
@@ -63,10 +61,6 @@ calm_types p = calm_by (λ t. ends_calmly p (finalization_in (Some t))) p.types
 abbrev pub inert_types : List TypeForm → List Bool
 inert_types types = calm_by (λ t. overrides_nothing (finalization_in (Some t))) types
 
--- And where objects are copied: no Adjust is called there that tracks components.
-abbrev pub calmly_copied_types : ProgramForm → List Bool
-calmly_copied_types p = calm_by (λ t. not (adjusts_access p t)) p.types
-
 -- A type is an access type that designates a record type without controlled parts, or a calm one (3.10, 7.6).
 abbrev pub is_calm_access : List TypeForm → (calm : List Bool) → Option TypeForm → Bool
 is_calm_access types calm None = false
@@ -81,23 +75,3 @@ has_calm_objects types calm t = is_calm_access types calm (slice_get types t)
 -- The objects of an access type of a program are calm where they begin and end.
 abbrev pub are_calm_in : ProgramForm → (access : ℕ) → Bool
 are_calm_in p t = has_calm_objects p.types (calm_types p) t
-
--- They are calm where they are copied.
-abbrev pub are_calmly_copied_in : ProgramForm → (access : ℕ) → Bool
-are_calmly_copied_in p t = has_calm_objects p.types (calmly_copied_types p) t
-
--- A component holds no access value (3.8, 3.10), or values of an access type whose objects are calm.
-abbrev pub is_calm_component : List TypeForm → (calm : List Bool) → ComponentKind → Bool
-is_calm_component types calm (component.Integer initial) = true
-is_calm_component types calm (component.Boolean initial) = true
-is_calm_component types calm (component.Access access) = has_calm_objects types calm access.0
-
--- So does each component of a type, if it is a record type.
-abbrev pub has_calm_components : List TypeForm → (calm : List Bool) → TypeForm → Bool
-has_calm_components types calm (record_of name parts components finalization) = list_all (is_calm_component types calm) components
-has_calm_components types calm (access_to name designated pool) = true
-has_calm_components types calm (object_of record_type) = true
-
--- No component of a program names an object with a part whose Adjust tracks components.
-abbrev pub names_no_trackers : ProgramForm → Bool
-names_no_trackers p = list_all (has_calm_components p.types (calmly_copied_types p)) p.types

@@ -13,7 +13,6 @@ use Rattle.ada_program.specs.ProgramForm.{BodyForm, ProgramForm}
 use Rattle.ada_program.specs.WellFormed.{finalization_of}
 use Rattle.ada_quiet.specs.Quiet.{is_plain_body, is_quiet_body, is_plain_operation, is_quiet_operation, has_access, operation_body}
 use Rattle.ada_quiet.specs.Frugal.{is_frugal_operation}
-use Rattle.ada_quiet.specs.Calm.{calmly_copied_types}
 use Rattle.ada_quiet.specs.Simple.{is_simple_body, is_simple_operation}
 use Rattle.ada_quiet.specs.InUse.{adjusts_alone, adjusts_nothing, may_adjust_frugally, may_be_frugal, may_track, operations_are_idle}
 
@@ -40,7 +39,7 @@ abbrev pub adjusts_in_use : ProgramForm → (owns : Bool) → (procedure : Proce
 adjusts_in_use p owns procedure b =
     (adjusts_nothing p && is_frugal_operation p (Some procedure))
     || (if owns
-    then may_track p && is_simple_body p.types (calmly_copied_types p) (adjusts_alone p) b
+    then may_track p && is_simple_body p.types (adjusts_alone p) b
     else is_quiet_body p.types b || (may_adjust_frugally p && is_frugal_operation p (Some procedure)))
 
 -- A body finalizes in use: it is quiet, or frugal, where it may be.

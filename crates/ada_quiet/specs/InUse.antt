@@ -9,7 +9,6 @@ use Rattle.ada_program.specs.declared.program.ProcedureNo.{ProcedureNo}
 use Rattle.ada_program.specs.ProgramForm.{PartForm, TypeForm, record_of, access_to, object_of, ProgramForm}
 use Rattle.ada_program.specs.WellFormed.{finalization_in, components_within, is_parent, is_inherited}
 use Rattle.ada_quiet.specs.Quiet.{is_quiet_operation, is_plain_operation, has_access, operation_body}
-use Rattle.ada_quiet.specs.Calm.{names_no_trackers}
 use Rattle.ada_quiet.specs.Frugal.{is_frugal_operation}
 use Rattle.ada_quiet.specs.Simple.{is_simple_operation}
 use Rattle.ada_quiet.specs.Apart.{operations_stand_apart}
@@ -50,10 +49,10 @@ is_copied_in_order types (record_of name parts components finalization) = stand_
 is_copied_in_order types (access_to name designated pool) = true
 is_copied_in_order types (object_of record_type) = true
 
--- An Adjust may track its components in a program in which a Finalize may be frugal, no component names an object with a part whose Adjust tracks, and each
--- record's components stand in order.
+-- An Adjust may track its components in a program in which a Finalize may be frugal, and each record's components stand in order. A variable or a component may
+-- name the object that is adjusted: by S8 the body follows no such value and frees none.
 abbrev pub may_track : ProgramForm → Bool
-may_track p = may_be_frugal p && names_no_trackers p && list_all (is_copied_in_order p.types) p.types
+may_track p = may_be_frugal p && list_all (is_copied_in_order p.types) p.types
 
 -- A record has at most one controlled part, at any depth and itself included: where it is copied, that is the first one that is adjusted, and the last one
 -- (7.6).

@@ -19,8 +19,7 @@ PlainIsFrugal = (thrift : Thrift) (types : List TypeForm) (b : BodyForm) → is_
 -- A quiet body is simple, whether objects may be freed or not: it calls nothing, copies no record, and frees nothing.
 abbrev pub QuietIsSimple : Type 0
 QuietIsSimple =
-    (types others : List TypeForm) (calm : List Bool) (may_free : Bool) (b : BodyForm)
-    → is_quiet_body types b ≡ true → is_simple_body others calm may_free b ≡ true
+    (types others : List TypeForm) (may_free : Bool) (b : BodyForm) → is_quiet_body types b ≡ true → is_simple_body others may_free b ≡ true
 
 -- Where all operations are quiet, all are in use.
 abbrev pub QuietIsInUse : Type 0

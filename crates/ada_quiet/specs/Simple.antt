@@ -10,7 +10,6 @@ use Rattle.ada_program.specs.declared.program.VariableKind.{VariableKind}
 use Rattle.ada_program.specs.declared.program.VariableKind.TheVariants as variable
 use Rattle.ada_program.specs.ProgramForm.{TypeForm, BodyForm, ProgramForm}
 use Rattle.ada_quiet.specs.Bare.{has_bare_objects}
-use Rattle.ada_quiet.specs.Calm.{calmly_copied_types, has_calm_objects}
 
 -- A path leads into another object than that of the formal parameter, which is the first variable: it begins with another one, or follows what lies there
 -- (4.1).
@@ -83,25 +82,25 @@ module _ (types : List TypeForm) (may_free : Bool) where
     are_simple_handlers no_handlers = true
     are_simple_handlers (a_handler choices fs hs) = are_simple fs && are_simple_handlers hs
 
--- A variable holds an Integer, a Boolean, or values of an access type whose objects are calm (3.3.1, 3.10): it is no record.
-abbrev pub is_calm_kind : List TypeForm → (calm : List Bool) → VariableKind → Bool
-is_calm_kind types calm variable.Integer = true
-is_calm_kind types calm variable.Boolean = true
-is_calm_kind types calm (variable.Access access) = has_calm_objects types calm access.0
-is_calm_kind types calm (variable.Record object) = false
+-- A variable holds an Integer, a Boolean or an access value (3.3.1, 3.10): it is no record.
+abbrev pub holds_one_value : VariableKind → Bool
+holds_one_value variable.Integer = true
+holds_one_value variable.Boolean = true
+holds_one_value (variable.Access access) = true
+holds_one_value (variable.Record object) = false
 
--- All of a body is so, and so is each of its variables but the first one, the formal parameter: they name calm objects.
-abbrev pub is_simple_body : List TypeForm → (calm : List Bool) → (may_free : Bool) → BodyForm → Bool
-is_simple_body types calm may_free b =
-    list_all (λ x. is_calm_kind types calm x.kind) (drop 1 b.variables) && are_simple_declarations types b.declarations
+-- All of a body is so, and none of its variables is a record but the first one, the formal parameter.
+abbrev pub is_simple_body : List TypeForm → (may_free : Bool) → BodyForm → Bool
+is_simple_body types may_free b =
+    list_all (λ x. holds_one_value x.kind) (drop 1 b.variables) && are_simple_declarations types b.declarations
     && are_simple types may_free b.statements && are_simple_handlers types may_free b.handlers
 
 -- A procedure that was found has such a body.
-abbrev pub is_simple_procedure : List TypeForm → (calm : List Bool) → (may_free : Bool) → Option BodyForm → Bool
-is_simple_procedure types calm may_free None = true
-is_simple_procedure types calm may_free (Some b) = is_simple_body types calm may_free b
+abbrev pub is_simple_procedure : List TypeForm → (may_free : Bool) → Option BodyForm → Bool
+is_simple_procedure types may_free None = true
+is_simple_procedure types may_free (Some b) = is_simple_body types may_free b
 
--- So has what overrides an operation, if one is overridden (7.6): no variable of it names an object with a part whose Adjust tracks components, as the copy is.
+-- So has what overrides an operation, if one is overridden (7.6).
 abbrev pub is_simple_operation : ProgramForm → (may_free : Bool) → Option ProcedureNo → Bool
 is_simple_operation p may_free None = true
-is_simple_operation p may_free (Some procedure) = is_simple_procedure p.types (calmly_copied_types p) may_free (slice_get p.bodies procedure.0)
+is_simple_operation p may_free (Some procedure) = is_simple_procedure p.types may_free (slice_get p.bodies procedure.0)

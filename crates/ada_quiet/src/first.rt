@@ -5,14 +5,12 @@
 
 ghost use Rattle.std.specs.Prelude.{◌≡◌, ◌↔◌, None, true, IfOk};
 ghost use Rattle.ada_program.specs.ProgramForm.{program_form};
-ghost use Rattle.ada_quiet.specs.Calm.{calmly_copied_types};
 ghost use Rattle.ada_quiet.specs.First as rules;
 ghost use Rattle.ada_quiet.specs.First.{BeginsUnused, IsFirst, IsFirstUnused};
 ghost use Rattle.ada_quiet.specs.Frugal as spent;
 ghost use Rattle.ada_quiet.specs.InUse.{operations_are_in_use, operations_may_be_called};
 ghost use Rattle.ada_quiet.specs.Quiet as quiet;
 
-use crate::calm::calmly_copied_types;
 use crate::frugal::frugal_operations;
 use crate::idle::are_idle;
 use crate::operations::has_access;
@@ -57,18 +55,16 @@ pub fn start_unless(program: &Program, fits: bool, operation: Option<ProcedureNo
 }
 
 /// The first one of those that override the operations of a type and are not in use, by the procedures whose bodies are frugal, where
-/// this is allowed, by the types that are calm where objects are copied, and the type has such a component or not.
+/// this is allowed, and the type has such a component or not.
 fn unused_in(
     alloc: Global,
     program: &Program,
     frugal: &[bool],
-    copied: &[bool],
     may: Allowed,
     owns: bool,
     finalization: Option<Finalization>,
 ) -> Result<Option<Spot>, AllocError>
-    requires frugal { frugal.now ≡ spent.frugal_operations (program_form program.now) }
-    requires copied { copied.now ≡ calmly_copied_types (program_form program.now) }
+    requires { frugal.now ≡ spent.frugal_operations (program_form program.now) }
     ensures { IfOk result (λ first. first
         ≡ rules.unused_in (program_form program.now) may.frugal may.nothing may.freely may.tracks may.alone owns finalization) }
 {
@@ -77,7 +73,7 @@ fn unused_in(
     };
     let operations = finalization.operations;
     let begins = uses_initialize(program, frugal, may.frugal, operations.initialize);
-    let adjusts = uses_adjust(alloc, program, frugal, copied, may, owns, operations.adjust)?;
+    let adjusts = uses_adjust(alloc, program, frugal, may, owns, operations.adjust)?;
     let ends = uses_finalize(alloc, program, frugal, may.frugal, operations.finalize)?;
     let initialize = start_unless(program, begins, operations.initialize);
     let adjust = start_unless(program, adjusts, operations.adjust);
@@ -96,7 +92,6 @@ fn first_uncallable(alloc: Global, program: &Program) -> Result<Option<Spot>, Al
     ensures called { IfOk result (λ first. (first ≡ None) ↔ (operations_may_be_called (program_form program.now) ≡ true)) }
 {
     let frugal = frugal_operations(alloc, program)?;
-    let copied = calmly_copied_types(alloc, program)?;
     let may = allowed_in(alloc, program)?;
     let mut first = None;
     'types: for number in 0..program.types.len() {
@@ -105,7 +100,6 @@ fn first_uncallable(alloc: Global, program: &Program) -> Result<Option<Spot>, Al
             alloc,
             program,
             &frugal,
-            &copied,
             may,
             owns,
             finalization_of(&program.types, number),

@@ -22,7 +22,7 @@
 //! component of an access type, declared in it directly, Adjust is to be simple, where it may track that component: a quiet one would leave
 //! it as it is. A simple body allocates objects without controlled parts, and frees some where it may, moves and follows, calls nothing,
 //! copies no record but into what it allocates, from another object than that of its formal parameter, and declares variables alone, none
-//! of which is of an access type whose objects have a part with an Adjust that tracks.
+//! of them a record.
 //!
 //! An Initialize and a Finalize may be frugal in a program in which operations stand apart, as below (`may_be_frugal`), whatever components
 //! the objects of its collections have, and in whatever order these are created. While a master is left, its collections go one after the
@@ -45,13 +45,13 @@
 //! An Adjust that may be called may be frugal where an Initialize may be, in a program in which no Adjust tracks (`tracks_nothing`): there
 //! no record is copied that has a component of an access type, at any depth.
 //!
-//! An Adjust may track where a Finalize may be frugal, if also no component names an object that has a part whose Adjust tracks: where
-//! such an object is copied, each Adjust that is called leaves components as they are (`names_no_trackers`). And the elementary components
-//! of each record type are to stand in the order of its declared ones, and a record whose type overrides Adjust is to be controlled
-//! itself, as in each program that is resolved. A record may have any number of controlled parts: where it is copied, they are adjusted
-//! one behind the other (7.6). But where some record of the program has two, an Adjust that tracks frees nothing. For until a part of the
-//! copy is adjusted, its components name the same objects as those of the source: while another part is adjusted before it, these are to
-//! stay, and do so where nothing is freed. Where each record has at most one controlled part, none is left to be adjusted later.
+//! An Adjust may track where a Finalize may be frugal, if also the elementary components of each record type stand in the order of its
+//! declared ones, and a record whose type overrides Adjust is controlled itself, as in each program that is resolved (`may_track`). Its
+//! variables, and components of any object, may name the object that is adjusted: by rule S8, which `ada_operations` asks, nothing that
+//! runs there follows such a value or frees it. A record may have any number of controlled parts: where it is copied, they are adjusted one
+//! behind the other (7.6). But where some record of the program has two, an Adjust that tracks frees nothing. For until a part of the copy
+//! is adjusted, its components name the same objects as those of the source: while another part is adjusted before it, these are to stay,
+//! and do so where nothing is freed. Where each record has at most one controlled part, none is left to be adjusted later.
 //!
 //! A program with another body is refused (F23), since no theorem covers it so far: an Initialize, an Adjust or a Finalize that touches
 //! storage in another program, gives values to the components of objects with controlled parts that it allocates, declares records with a

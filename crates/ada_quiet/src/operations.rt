@@ -5,7 +5,6 @@ ghost use Rattle.std.specs.List.{list_any, slice_get};
 ghost use Rattle.ada_program.specs.Kept.{types_in};
 ghost use Rattle.ada_program.specs.ProgramForm.{ProgramForm, part_form, program_form, type_form};
 ghost use Rattle.ada_program.specs.WellFormed as fits;
-ghost use Rattle.ada_quiet.specs.Calm.{calmly_copied_types};
 ghost use Rattle.ada_quiet.specs.Frugal as spent;
 ghost use Rattle.ada_quiet.specs.Quiet as rules;
 ghost use Rattle.ada_quiet.specs.Simple as simple;
@@ -60,14 +59,12 @@ pub(crate) fn is_frugal_operation(frugal: &[bool], operation: Option<ProcedureNo
     }
 }
 
-/// Whether it has a simple one, where objects may be freed or not, by the types that are calm where objects are copied.
+/// Whether it has a simple one, where objects may be freed or not.
 pub(crate) fn is_simple_operation(
     program: &Program,
-    calm: &[bool],
     may_free: bool,
     operation: Option<ProcedureNo>,
 ) -> bool
-    requires { calm.now ≡ calmly_copied_types (program_form program.now) }
     ensures { result ≡ simple.is_simple_operation (program_form program.now) may_free operation }
 {
     let Some(number) = operation else {
@@ -76,7 +73,7 @@ pub(crate) fn is_simple_operation(
     let Some(procedure) = program.procedures.get(number.0) else {
         return true;
     };
-    is_simple_body(&program.types, calm, may_free, procedure)
+    is_simple_body(&program.types, may_free, procedure)
 }
 
 /// Whether all those have a quiet one that override the operations of a type.
@@ -191,7 +188,7 @@ fn is_adjusted(program: &Program, finalization: Option<Finalization>) -> bool
 
 /// Whether a body overrides Adjust of a type with a component of an access type, declared in it directly (3.10, 7.6). Linear in the
 /// components.
-pub(crate) fn adjusts_access(program: &Program, definition: &TypeDefinition) -> bool
+fn adjusts_access(program: &Program, definition: &TypeDefinition) -> bool
     ensures { result ≡ rules.adjusts_access (program_form program.now) (type_form definition.now) }
 {
     has_own_access(definition) && is_adjusted(program, finalization_in(definition))

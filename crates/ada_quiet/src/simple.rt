@@ -10,7 +10,6 @@ ghost use Rattle.ada_program.specs.ProgramForm.{body_form};
 ghost use Rattle.ada_quiet.specs.Simple as rules;
 
 use crate::bare::has_bare_objects;
-use crate::calm::has_calm_objects;
 use ada_program::Stmt;
 use ada_program::program::{
     Branch, Declaration, Handler, Item, Path, Procedure, Right, TypeDefinition, Variable,
@@ -184,23 +183,22 @@ fn are_simple_handlers(types: &[TypeDefinition], may_free: bool, handlers: &[Han
     true
 }
 
-/// Whether a variable holds an Integer, a Boolean, or values of an access type whose objects are calm (3.3.1, 3.10).
-fn is_calm_kind(types: &[TypeDefinition], calm: &[bool], kind: VariableKind) -> bool
-    ensures { result ≡ rules.is_calm_kind (types_in types.now) calm.now kind }
+/// Whether a variable holds an Integer, a Boolean or an access value (3.3.1, 3.10): it is no record.
+fn holds_one_value(kind: VariableKind) -> bool
+    ensures { result ≡ rules.holds_one_value kind }
 {
     match kind {
-        VariableKind::Integer | VariableKind::Boolean => true,
-        VariableKind::Access(access) => has_calm_objects(types, calm, access),
+        VariableKind::Integer | VariableKind::Boolean | VariableKind::Access(_) => true,
         VariableKind::Record(_) => false,
     }
 }
 
 /// Whether each of these does.
-fn are_calm_kinds(types: &[TypeDefinition], calm: &[bool], variables: &[Variable]) -> bool
-    ensures { result ≡ list_all (λ x. rules.is_calm_kind (types_in types.now) calm.now x.kind) (variables_in variables.now) }
+fn hold_one_value(variables: &[Variable]) -> bool
+    ensures { result ≡ list_all (λ x. rules.holds_one_value x.kind) (variables_in variables.now) }
 {
     'variables: for variable in variables {
-        if !is_calm_kind(types, calm, variable.kind) {
+        if !holds_one_value(variable.kind) {
             return false;
         }
     }
@@ -208,28 +206,26 @@ fn are_calm_kinds(types: &[TypeDefinition], calm: &[bool], variables: &[Variable
 }
 
 /// Whether each variable of a body but its formal parameter does.
-fn has_calm_variables(types: &[TypeDefinition], calm: &[bool], variables: &[Variable]) -> bool
-    ensures { result ≡ list_all (λ x. rules.is_calm_kind (types_in types.now) calm.now x.kind) (drop 1 (variables_in variables.now)) }
+fn others_hold_one_value(variables: &[Variable]) -> bool
+    ensures { result ≡ list_all (λ x. rules.holds_one_value x.kind) (drop 1 (variables_in variables.now)) }
 {
     match variables {
         [] => true,
-        [_, others @ ..] => are_calm_kinds(types, calm, others),
+        [_, others @ ..] => hold_one_value(others),
     }
 }
 
 /// Whether a body is simple: it allocates objects without controlled parts, and frees some where objects may be freed, moves and
 /// follows; it calls nothing, copies no record but into what it allocates, from another object than that of the formal parameter, and
-/// declares variables alone, none of them a record or of an access type whose objects are not calm. An exception may come out of it.
-/// Linear in the body.
+/// declares variables alone, none of them a record. An exception may come out of it. Linear in the body.
 pub(crate) fn is_simple_body(
     types: &[TypeDefinition],
-    calm: &[bool],
     may_free: bool,
     procedure: &Procedure,
 ) -> bool
-    ensures { result ≡ rules.is_simple_body (types_in types.now) calm.now may_free (body_form procedure.now) }
+    ensures { result ≡ rules.is_simple_body (types_in types.now) may_free (body_form procedure.now) }
 {
-    has_calm_variables(types, calm, &procedure.variables)
+    others_hold_one_value(&procedure.variables)
         && are_simple_declarations(types, &procedure.declarations)
         && are_simple(types, may_free, &procedure.statements)
         && are_simple_handlers(types, may_free, &procedure.handlers)

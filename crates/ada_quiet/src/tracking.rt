@@ -1,23 +1,19 @@
-//! Where an Adjust may track the components of access types of its formal parameter (7.6): a Finalize may be frugal, no component names
-//! an object with a part whose Adjust tracks, the elementary components of each record type stand in the order of its declared components,
-//! and a record whose type overrides Adjust is itself adjusted. Where none tracks. And where the copy of a record adjusts one controlled part alone: each
-//! record has at most one.
+//! Where an Adjust may track the components of access types of its formal parameter (7.6): a Finalize may be frugal, the elementary components
+//! of each record type stand in the order of its declared components, and a record whose type overrides Adjust is itself adjusted. Where
+//! none tracks. And where the copy of a record adjusts one controlled part alone: each record has at most one.
 
-ghost use Rattle.std.specs.Prelude.{◌≡◌, ◌&&◌, ◌||◌, ◌==◌, Some, map, IfOk};
+ghost use Rattle.std.specs.Prelude.{◌≡◌, ◌&&◌, ◌||◌, ◌==◌, Some, map};
 ghost use Rattle.std.specs.List.{list_all, list_any};
 ghost use Rattle.std.specs.Option.{option_copied};
 ghost use Rattle.ada_program.specs.Kept.{types_in};
 ghost use Rattle.ada_program.specs.ProgramForm.{part_form, program_form, type_form};
 ghost use Rattle.ada_program.specs.WellFormed as fits;
-ghost use Rattle.ada_quiet.specs.Calm.{names_no_trackers};
 ghost use Rattle.ada_quiet.specs.InUse as rules;
 
-use crate::calm::names_no_trackers;
 use crate::operations::{finalization_in, has_own_access};
 use ada_program::Program;
 use ada_program::lookup::record_components;
 use ada_program::program::{ComponentKind, Finalization, Part, PartKind, TypeDefinition};
-use std::alloc::{AllocError, Global};
 
 /// How many components there are, if they are those of something.
 fn count_found(components: Option<&[ComponentKind]>) -> usize
@@ -116,16 +112,12 @@ pub(crate) fn are_copied_in_order(types: &[TypeDefinition]) -> bool
     true
 }
 
-/// Whether an Adjust may track its components in a program, where a Finalize may be frugal or not: it may be, no component names an object
-/// with a part whose Adjust tracks, and the components of each record stand in order. Linear in the types and their components.
-///
-/// # Errors
-/// `AllocError` where memory was refused.
-pub(crate) fn may_track(alloc: Global, program: &Program, frugal: bool) -> Result<bool, AllocError>
-    ensures { let p = program_form program.now in
-        IfOk result (λ answer. answer ≡ (frugal && names_no_trackers p && list_all (rules.is_copied_in_order p.types) p.types)) }
+/// Whether an Adjust may track its components in a program, where a Finalize may be frugal or not: it may be, and the components of each
+/// record stand in order. Linear in the types and their components.
+pub(crate) fn may_track(program: &Program, frugal: bool) -> bool
+    ensures { let p = program_form program.now in result ≡ (frugal && list_all (rules.is_copied_in_order p.types) p.types) }
 {
-    Ok(frugal && names_no_trackers(alloc, program)? && are_copied_in_order(&program.types))
+    frugal && are_copied_in_order(&program.types)
 }
 
 /// Whether a record has at most one controlled part, at any depth and itself included: where it is copied, that is the first one that

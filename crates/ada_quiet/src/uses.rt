@@ -2,7 +2,6 @@
 
 ghost use Rattle.std.specs.Prelude.{◌≡◌, IfOk};
 ghost use Rattle.ada_program.specs.ProgramForm.{program_form};
-ghost use Rattle.ada_quiet.specs.Calm.{calmly_copied_types};
 ghost use Rattle.ada_quiet.specs.First as first;
 ghost use Rattle.ada_quiet.specs.Frugal.{frugal_operations};
 ghost use Rattle.ada_quiet.specs.InUse as rules;
@@ -56,7 +55,7 @@ pub(crate) fn allowed_in(alloc: Global, program: &Program) -> Result<Allowed, Al
     let frugal = may_be_frugal(alloc, program)?;
     let nothing = adjusts_nothing(alloc, program)?;
     let freely = frugal && tracks_nothing(program);
-    let tracks = may_track(alloc, program, frugal)?;
+    let tracks = may_track(program, frugal);
     let alone = adjusts_alone(program);
     Ok(Allowed {
         frugal,
@@ -82,8 +81,7 @@ pub(crate) fn uses_initialize(
 
 /// Whether what overrides Adjust is frugal, where no Adjust is called; else whether it is simple, where it may track, if it is a body, and
 /// its type has a component of an access type, declared in it directly; of another type, whether it is quiet, or frugal, where it may be
-/// so freely. What tracks may free objects where the copy of a record adjusts one controlled part alone, and there only; and its variables
-/// name objects alone that are calm where they are copied, as these types are.
+/// so freely. What tracks may free objects where the copy of a record adjusts one controlled part alone, and there only.
 ///
 /// # Errors
 /// `AllocError` where memory for the exceptions that it raises was refused.
@@ -91,13 +89,11 @@ pub(crate) fn uses_adjust(
     alloc: Global,
     program: &Program,
     procedures: &[bool],
-    copied: &[bool],
     may: Allowed,
     owns: bool,
     operation: Option<ProcedureNo>,
 ) -> Result<bool, AllocError>
-    requires frugal { procedures.now ≡ frugal_operations (program_form program.now) }
-    requires copied { copied.now ≡ calmly_copied_types (program_form program.now) }
+    requires { procedures.now ≡ frugal_operations (program_form program.now) }
     ensures { IfOk result (λ answer. answer
         ≡ first.adjusts (program_form program.now) may.nothing may.freely may.tracks may.alone owns operation) }
 {
@@ -107,7 +103,7 @@ pub(crate) fn uses_adjust(
     if !(owns && is_overridden(program, operation)) {
         return is_quiet_or_frugal(alloc, program, procedures, may.freely, operation);
     }
-    Ok(may.tracks && is_simple_operation(program, copied, may.alone, operation))
+    Ok(may.tracks && is_simple_operation(program, may.alone, operation))
 }
 
 /// Whether what overrides an operation is quiet, or frugal, where it may be.

@@ -21,14 +21,15 @@ use Rattle.ada_deeds.specs.declared.deed.Operation.TheVariants.{Adjust, Finalize
 use Rattle.ada_deeds.specs.Does.{called_does, is_deed_of, Does, does}
 use Rattle.ada_deeds.specs.Follows.{selectors_follow, path_follows, record_path_follows, expression_follows, links_follow, condition_follows, actual_follows, actuals_follow}
 use Rattle.ada_deeds.specs.Forms.{path_does, record_path_does, expression_does, condition_does, actuals_do, allocation_does, freeing_does, is_left, is_raising, procedure_does, parts_do, creation_does, assignment_does, designated_by, item_does, items_do, right_does, declaration_does, declarations_do, leaving_does, stmt_does, stmts_do, branches_do, handlers_do, body_does}
+use Rattle.ada_deeds.specs.Laws.{DoesFree}
 use Rattle.ada_deeds.specs.Within.{does_by}
 use Rattle.ada_deeds.proofs.Naming.{KindFits, variable_fits_kind, path_fits_kind}
 use Rattle.ada_deeds.proofs.Within.{counts_are_enough}
 use Rattle.ada_typed.proofs.Bodies.{SeenFits, seen_as, seen_fits}
 use Rattle.ada_reaching.specs.Apart.{Apart}
-use Rattle.ada_reaching.specs.Forms.{may_assign, may_fill, may_end, may_follow, selectors_shun, path_shuns, record_path_shuns, expression_shuns, links_shun, condition_shuns, item_shuns, right_shuns, actual_shuns, declaration_shuns, declarations_shun, statement_shuns, statements_shun, branches_shun, handlers_shun}
+use Rattle.ada_reaching.specs.Forms.{may_assign, may_fill, may_end, may_follow, selectors_shun, path_shuns, record_path_shuns, expression_shuns, links_shun, condition_shuns, item_shuns, right_shuns, actual_shuns, declaration_shuns, declarations_shun, statement_shuns, statements_shun, branches_shun, handlers_shun, body_shuns}
 use Rattle.ada_reaching.specs.Law.{AreApart}
-use Rattle.ada_reaching.specs.Deeds.{AreShaped, UseNone, UnusedObjectsAreUntouched}
+use Rattle.ada_reaching.specs.Deeds.{AreShaped, DoesFollow, UseNone, UnusedObjectsAreUntouched}
 use Rattle.ada_reaching.proofs.Law.{shunned_untouched}
 
 -- None of these is done.
@@ -418,7 +419,7 @@ module _ (types : List TypeForm) (shuns : ℕ → Bool) (apart : Apart) where
           → NoneOf is_use (master_does b.declarations b.statements b.handlers) → master_shuns shuns b.declarations b.statements b.handlers ≡ true
       body_idle b = master_from b.declarations b.statements b.handlers (statements_idle b.statements) (handlers_idle b.handlers)
 
-module _ (p : ProgramForm) (shuns : ℕ → Bool) (apart : Apart) (unused : UseNone p shuns apart) where
+module _ (p : ProgramForm) (shuns : ℕ → Bool) (apart : Apart) where
   -- What the body of a procedure does, by what is known of its calls, the procedure does.
   body_done :
       (d : Deed) (procedure : ℕ) (b : BodyForm) → is_deed_of p d ≡ true → slice_get p.bodies procedure ≡ Some b → body_does p.types (does_by p d) d b ≡ true
@@ -426,30 +427,44 @@ module _ (p : ProgramForm) (shuns : ℕ → Bool) (apart : Apart) (unused : UseN
   body_done d procedure b of is done =
       does of (does_by p d) (λ other known. (counts_are_enough p d other).0 known) (ap (called_does p.types (does_by p d) d) is ∙ done)
 
-  -- So the body of one of these procedures follows and frees no value of the types.
+  -- A procedure follows no value of the types, and frees none.
+  abbrev FollowsNone : (procedure : ℕ) → Type 0
+  FollowsNone procedure = (access : ℕ) → shuns access ≡ true → is_access p.types access ≡ true → ¬ DoesFollow p procedure access
+
+  abbrev FreesNone : (procedure : ℕ) → Type 0
+  FreesNone procedure = (access : ℕ) → shuns access ≡ true → is_access p.types access ≡ true → ¬ DoesFree p procedure access
+
+  -- So its body does neither.
   body_uses_none :
-      (procedure : ℕ) (b : BodyForm) → apart.calls procedure ≡ true → slice_get p.bodies procedure ≡ Some b
+      (procedure : ℕ) (b : BodyForm) → FollowsNone procedure → FreesNone procedure → slice_get p.bodies procedure ≡ Some b
       → NoneOf (is_use p.types shuns apart) (λ d. body_does p.types (does_by p d) d b)
-  body_uses_none procedure b among is (deed.Raises e) asked = absurd (cc asked)
-  body_uses_none procedure b among is (deed.Frees t) asked =
+  body_uses_none procedure b follow_none free_none is (deed.Raises e) asked = absurd (cc asked)
+  body_uses_none procedure b follow_none free_none is (deed.Frees t) asked =
       let shunned = and_parts (shuns t.0) (is_access p.types t.0) asked in
       false_from_ne_true (body_does p.types (does_by p (deed.Frees t)) (deed.Frees t) b)
-      (λ done. unused.free_none procedure t.0 among shunned.0 (body_done (deed.Frees t) procedure b (type_there p.types t.0 shunned.1) is done))
-  body_uses_none procedure b among is (deed.Follows t) asked =
+      (λ done. free_none t.0 shunned.0 shunned.1 (body_done (deed.Frees t) procedure b (type_there p.types t.0 shunned.1) is done))
+  body_uses_none procedure b follow_none free_none is (deed.Follows t) asked =
       let shunned = and_parts (shuns t.0) (is_access p.types t.0) asked in
       false_from_ne_true (body_does p.types (does_by p (deed.Follows t)) (deed.Follows t) b)
-      (λ done. unused.follow_none procedure t.0 among shunned.0 (body_done (deed.Follows t) procedure b (type_there p.types t.0 shunned.1) is done))
-  body_uses_none procedure b among is deed.Allocates asked = absurd (cc asked)
-  body_uses_none procedure b among is deed.Calls asked = absurd (cc asked)
+      (λ done. follow_none t.0 shunned.0 shunned.1 (body_done (deed.Follows t) procedure b (type_there p.types t.0 shunned.1) is done))
+  body_uses_none procedure b follow_none free_none is deed.Allocates asked = absurd (cc asked)
+  body_uses_none procedure b follow_none free_none is deed.Calls asked = absurd (cc asked)
 
-  -- So the bodies of these procedures shun the types.
-  pub unused_apart : (definitions : List TypeDefinition) → IsWellFormed p → AreShaped p definitions apart → AreApart p definitions shuns apart
-  unused_apart definitions well shaped = record {
+  -- It shuns the types, where it is of the shape of bodies that do.
+  pub unused_body :
+      IsWellFormed p → (procedure : ℕ) (b : BodyForm) → slice_get p.bodies procedure ≡ Some b → FollowsNone procedure → FreesNone procedure
+      → body_shuns p.types (λ access. false) apart b ≡ true → body_shuns p.types shuns apart b ≡ true
+  unused_body well procedure b is follow_none free_none shaped =
+      let fits = subst (λ (own : ProgramForm). SeenFits own) (seen_as p procedure b is) (seen_fits p well (Some procedure)) in
+      body_idle p.types shuns apart b.variables well.types_fit fits.variables_fit (does_by p) b shaped (body_uses_none procedure b follow_none free_none is)
+
+  -- So it is with the bodies of procedures that use none of the types.
+  pub unused_apart : UseNone p shuns apart → (definitions : List TypeDefinition) → IsWellFormed p → AreShaped p definitions apart → AreApart p definitions shuns apart
+  unused_apart unused definitions well shaped = record {
     own = shaped.own;
     bodies = λ procedure b among is.
-        let fits = subst (λ (own : ProgramForm). SeenFits own) (seen_as p procedure b is) (seen_fits p well (Some procedure)) in
-        body_idle p.types shuns apart b.variables well.types_fit fits.variables_fit (does_by p) b (shaped.bodies procedure b among is)
-        (body_uses_none procedure b among is);
+        unused_body well procedure b is (λ t asked of. unused.follow_none procedure t among asked) (λ t asked of. unused.free_none procedure t among asked)
+        (shaped.bodies procedure b among is);
     operations = shaped.operations;
   }
 

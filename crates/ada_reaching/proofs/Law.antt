@@ -234,6 +234,34 @@ further : (w : World) (k : List (Frame Value)) → (k ≡ frame.Returns [] [] �
 further w [] on = tt
 further w (f ∷ k) on = on
 
+-- In a state whose values are of their kinds, what objects and variables hold is.
+pub sound_now :
+    (program : Program) → IsWellFormed (program_form program) → (s : State) → typed.Typed (program_form program) s
+    → IsSound (program_form program).types (seen_now (program_form program) s).variables s.heap (places s)
+sound_now program well s typing =
+    let p = program_form program in
+    let own = seen_now p s in
+    let procedure = procedure_of s.activations in
+    let fits : SeenFits own = seen_fits p well procedure in
+    let types : own.types ≡ p.types = types_seen p procedure in
+    record {
+      filled = typed_filled p s typing;
+      holds = λ x kind is.
+          subst (λ (ts : List TypeForm). HasKind ts (cells_of s.heap) kind (held named s x)) types (typed_holds own s x kind typing.inside is).1;
+      records = λ x object is.
+          ap (λ (ts : List TypeForm). is_access ts object.0) (sym types) ∙ record_apart own.types own.variables x object fits.variables_fit is;
+    }
+
+-- The path of the first frame leads somewhere.
+pub rooted_now :
+    (program : Program) (s : State) → typed.Typed (program_form program) s
+    → FirstIsRooted (program_form program).types (seen_now (program_form program) s).variables s.mode s.control
+rooted_now program s typing =
+    let p = program_form program in
+    let own = seen_now p s in
+    subst (λ (ts : List TypeForm). FirstIsRooted ts own.variables s.mode s.control) (types_seen p (procedure_of s.activations))
+    (first_rooted own s s.mode s.control typing.inside refl refl)
+
 -- Of a state whose values are of their kinds.
 pub stays_reaching :
     (program : Program) → IsWellFormed (program_form program) → (shuns : ℕ → Bool) (apart : Apart)
@@ -263,19 +291,8 @@ stays_reaching program well shuns apart are_apart ghosts unnamed behind lower s 
       upper = reaching.upper;
       suspended = older s.activations;
     } in
-    let fits : SeenFits own = seen_fits p well procedure in
-    let types : own.types ≡ p.types = types_seen p procedure in
-    let inside : typed.TypedIn own s = typing.inside in
-    let sound : IsSound p.types own.variables s.heap (places s) = record {
-      filled = typed_filled p s typing;
-      holds = λ x kind is.
-          subst (λ (ts : List TypeForm). HasKind ts (cells_of s.heap) kind (held named s x)) types (typed_holds own s x kind inside is).1;
-      records = λ x object is.
-          ap (λ (ts : List TypeForm). is_access ts object.0) (sym types) ∙ record_apart own.types own.variables x object fits.variables_fit is;
-    } in
-    let root : FirstIsRooted p.types own.variables s.mode s.control =
-    subst (λ (ts : List TypeForm). FirstIsRooted ts own.variables s.mode s.control) types
-    (first_rooted own s s.mode s.control inside refl refl) in
+    let sound : IsSound p.types own.variables s.heap (places s) = sound_now program well s typing in
+    let root : FirstIsRooted p.types own.variables s.mode s.control = rooted_now program s typing in
     let runs : Runs w s = record {
       runs = refl;
       waits = refl;
@@ -287,7 +304,7 @@ stays_reaching program well shuns apart are_apart ghosts unnamed behind lower s 
       first_open w s sound runs s.mode s.control reaching.control root reaching.seeks,
       step_goes w program.types.items refl are_apart s.mode s.control s sound (further w s.control within.on) within.houses root
           (first_refers p (cells_of s.heap) w procedure s.control (older s.activations) typing.waiting)
-          (first_assigns own s w s.mode s.control inside refl refl) runs reaching.control reaching.jumps
+          (first_assigns own s w s.mode s.control typing.inside refl refl) runs reaching.control reaching.jumps
           reaching.seeks,
     )
 

@@ -1,9 +1,9 @@
 -- The body of an Adjust runs that tracks components of its formal parameter (7.6), after a copy of a record: what holds of the state that stands for the real
 -- one, which has a variable for each of them.
 
-use Rattle.std.proofs.Common.{◌≡◌, ◌≢◌, ℕ, ◌==◌, Bool, true, false, List, [], ◌∷◌, length, drop, ◌⊎◌}
+use Rattle.std.proofs.Common.{◌≡◌, ◌≢◌, ℕ, ◌==◌, Bool, true, List, [], ◌∷◌, length, drop, ◌⊎◌}
 use Rattle.std.specs.Prelude.{Option, Some}
-use Rattle.std.specs.List.{list_any, slice_get}
+use Rattle.std.specs.List.{list_all, list_any, slice_get}
 use Rattle.ada_parts.specs.Part as parts
 use Rattle.ada_parts.specs.Task.{Task}
 use Rattle.ada_program.specs.declared.program.Exception.{Exception}
@@ -26,7 +26,7 @@ use Rattle.ada_quiet.specs.Apart.{is_tracker}
 use Rattle.ada_judged.specs.Fitting.{TracksComponents}
 use Rattle.ada_judged.specs.Obeying.{BodyIsOrderly}
 use Rattle.ada_quiet.specs.InUse.{may_be_frugal, may_track}
-use Rattle.ada_quiet.specs.Calm.{are_calmly_copied_in, calmly_copied_types}
+use Rattle.ada_quiet.specs.Simple.{holds_one_value}
 use Rattle.ada_beside.specs.Confined.{IsConfined}
 use Rattle.ada_beside.specs.Law.{LieBeside}
 use Rattle.ada_finalized.specs.Law.{NothingBegins}
@@ -43,14 +43,21 @@ use Rattle.ada_sound.proofs.Invariant.{AdjustsAside, Control, Ready, Rooms, Runs
 use Rattle.ada_sound.proofs.Judged.{known_judged}
 use Rattle.ada_sound.proofs.Operating.{IsCalm, WaitsFor}
 use Rattle.ada_sound.proofs.Allowance.{simple_allowance}
+use Rattle.ada_sound.proofs.Sparing.{Sparing}
 use Rattle.ada_sound.proofs.Touching.{Paused, resting}
-use Rattle.ada_sound.proofs.WatchedBy.{hold_calm}
 use Rattle.ada_sound.specs.Agreement.{running_procedure}
 
 -- A copy of a record is adjusted: an object that is declared gets its initial value so, or a record that is assigned to (3.3.1, 5.2).
 pub data IsOfCopy : Birth → Type 0 where
   copied : IsOfCopy Copy
   assigned : (number : ℕ) → IsOfCopy (Adjustment number)
+
+-- It looks at an object by its formal parameter alone, and so at the same one.
+pub same_sparing :
+    (program : Program) (o : Id) (access : ℕ) (behind : Control) (lower : List Master) (o_too : Id) (access_too : ℕ) (behind_too : Control) (lower_too : List Master)
+    → o_too ≡ o → access_too ≡ access → behind_too ≡ behind → lower_too ≡ lower → (s : State) → Sparing program o access behind lower s
+    → Sparing program o_too access_too behind_too lower_too s
+same_sparing program o access behind lower o_too access_too behind_too lower_too a b c d s sparing = rw (a, b, c, d) sparing
 
 -- The body of such an Adjust runs.
 pub record Adjusting (program : Program) (s : State) : Type 0 where
@@ -64,7 +71,7 @@ pub record Adjusting (program : Program) (s : State) : Type 0 where
   pub tracker : is_tracker (program_form program) number ≡ true
   pub components : TracksComponents (program_form program).types w.tracks b.variables
   pub orderly : BodyIsOrderly w.tracks b
-  pub lone : hold_calm (program_form program).types (calmly_copied_types (program_form program)) (drop 1 b.variables) ≡ true
+  pub lone : list_all (λ y. holds_one_value y.kind) (drop 1 b.variables) ≡ true
   -- the state that stands for this one
   pub t : State
   pub seen : Seen program.types.items (program_form program).bodies w s t
@@ -94,6 +101,8 @@ pub record Adjusting (program : Program) (s : State) : Type 0 where
   pub after : Control
   pub awaited : WaitsFor (program_form program).types object of (begins by done) tasks after behind
   pub lower : List Master
+  -- the body looks at the object by its formal parameter alone
+  pub sparing : Sparing program w.object access behind lower s
   pub kept : Keeping
   pub rooms : Rooms
   pub holds : Holds
@@ -105,7 +114,6 @@ pub record Adjusting (program : Program) (s : State) : Type 0 where
   pub calm : IsCalm (behind_call behind)
   pub settled : AreCalls suspensions
   pub tracking : may_track (program_form program) ≡ true
-  pub sees_to : are_calmly_copied_in (program_form program) access ≡ false
   pub may : may_be_frugal (program_form program) ≡ true
   pub silent : (e : Exception) → body_among (implicit_of (program_form program)) (known_judged program number w.tracks []).program e ≡ true → ⊥
   -- what holds of the state that stands for it
@@ -144,3 +152,5 @@ pub record AdjustingCopy (program : Program) (s : State) : Type 0 where
   pub found : object_at s.heap object ≡ Some x
   pub named : NameThere s.heap (values_at owners x.cell.values)
   pub leaves_alone : LeavesAlone adjusting.w owners s
+  -- so it looks at the object here, too
+  pub sparing : Sparing program adjusting.w.object adjusting.access adjusting.behind adjusting.lower s

@@ -3,7 +3,7 @@
 
 use Rattle.std.proofs.Common.{◌≡◌, ◌≢◌, ℕ, ◌+◌, zero, suc, Bool, true, false, List, [], ◌∷◌, ◌++◌, length, drop, refl, sym, ap, ◌∙◌, subst, inl, inr}
 use Rattle.std.specs.Prelude.{Option, Some, None}
-use Rattle.std.specs.List.{slice_get, slice_index_or}
+use Rattle.std.specs.List.{list_all, slice_get, slice_index_or}
 use Rattle.ada_deeds.specs.Implicit.{implicit_of}
 use Rattle.ada_effects.specs.Effects.{body_frees, effects_of}
 use Rattle.ada_parts.specs.Part as parts
@@ -39,6 +39,7 @@ use Rattle.ada_meaning.specs.Run.{Event}
 use Rattle.ada_owners.specs.Keeping.{IsThere}
 use Rattle.ada_owners.specs.Places.{access_at, is_there, variable}
 use Rattle.ada_owners.specs.Reliance.{Owns, Borrows, Says}
+use Rattle.ada_reaching.specs.Forms.{body_shuns}
 use Rattle.ada_tracked.specs.Forms.{seen_right, seen_declarations, seen_stmt, seen_stmts, seen_branches, seen_handlers}
 use Rattle.ada_tracked.specs.Frames.{View, watched, shifted, blanked, blank_object, tracked_values}
 use Rattle.ada_tracked.specs.Seen.{IsWatched, plainly, seen_state}
@@ -48,9 +49,9 @@ use Rattle.ada_typed.proofs.Bodies.{seen_as}
 use Rattle.ada_typed.proofs.Control as typed
 use Rattle.ada_typed.proofs.Kept.{behind_call}
 use Rattle.ada_quiet.specs.Apart.{is_tracker}
-use Rattle.ada_quiet.specs.Calm.{are_calmly_copied_in, calmly_copied_types}
+use Rattle.ada_quiet.specs.Simple.{holds_one_value}
 use Rattle.ada_sound.proofs.CallsApart.{CallApart}
-use Rattle.ada_sound.proofs.WatchedBy.{given_count, hold_calm, some_variable}
+use Rattle.ada_sound.proofs.WatchedBy.{given_count, some_variable}
 use Rattle.ada_sound.proofs.Activations.{called_fit}
 use Rattle.ada_sound.proofs.Adjusting.{Adjusting, IsOfCopy}
 use Rattle.ada_sound.proofs.Alters.{Alters, alters_set, alters_then}
@@ -65,6 +66,7 @@ use Rattle.ada_sound.proofs.Operating.{IsCalm, WaitsFor, behind_operation}
 use Rattle.ada_sound.proofs.OperationStarts.{apart}
 use Rattle.ada_sound.proofs.Orderings.{as_good}
 use Rattle.ada_sound.proofs.Returns.{same_types}
+use Rattle.ada_sound.proofs.Sparing.{Sparing, bare_apart, begins_sparing, is_around}
 use Rattle.ada_sound.proofs.FrugalControl.{waits_first}
 use Rattle.ada_sound.proofs.Allowance.{Allowance, body_more, allocates_thriftily, are_thrifty_declarations, is_thrifty_stmt, are_thrifty, are_thrifty_branches, are_thrifty_handlers, is_thrifty_body, simple_allowance}
 use Rattle.ada_sound.proofs.Stored.{AllOut, none_departed, stored_entered}
@@ -164,13 +166,15 @@ pub record Copied (known : Known) (may : ℕ → Bool) (o : Id) (x : Object) (re
   pub unaliased : Unaliased known.program.variables may works.holds
 
 -- The body of such an Adjust runs, for this object, which is known by the type `access`: a record of this type was copied into it, and these tasks are left
--- behind the operation.
-pub record AdjustsIn (program : Program) (o : Id) (access record_type : ℕ) (tasks : List Task) (w : View) (s : State) : Type 0 where
+-- behind the operation, as the control is behind the body, and the masters are around it.
+pub record AdjustsIn (program : Program) (o : Id) (access record_type : ℕ) (tasks : List Task) (behind : Control) (lower : List Master) (w : View) (s : State) : Type 0 where
   pub adjusting : Adjusting program s
   pub object_is : adjusting.object ≡ o
   pub access_is : adjusting.access ≡ access
   pub record_is : adjusting.record_type ≡ record_type
   pub left_is : adjusting.tasks ≡ tasks
+  pub behind_is : adjusting.behind ≡ behind
+  pub lower_is : adjusting.lower ≡ lower
   pub view_is : adjusting.w ≡ w
 
 module _ (program : Program) (number : ℕ) (b : BodyForm) (there : slice_get (program_form program).bodies number ≡ Some b) (w : View) (lone : IsAlone b) (components : TracksComponents (program_form program).types w.tracks b.variables) (a : Activation Value) (rest : List (Activation Value)) (gs : List Suspension) (s : State) (k : Control) (o : Id) (x : Object) (heap : List Object) (place : Place) (based : place.component ≡ w.base)
@@ -331,14 +335,20 @@ module _ (program : Program) (number : ℕ) (b : BodyForm) (there : slice_get (p
     referred_low q t (inl (same, of)) = rw (← same) (is_low o (blank, found_blank, at.exists))
     referred_low q t (inr other) = absurd other
 
+    -- The body looks at the object by its formal parameter alone.
+    looks_elsewhere : body_shuns p.types (is_around x.cell.access) (bare_apart program) b ≡ true → Sparing program w.object x.cell.access behind s.masters begun
+    looks_elsewhere shuns =
+        subst (λ (q : Id). Sparing program q x.cell.access behind s.masters begun) (sym at.object_so)
+        (begins_sparing program number b there x.cell.access shuns o place behind (record s { activations = a ∷ rest; heap = heap; mode = Running }))
+
     -- The body begins.
-    pub adjusting_begins : IsOfCopy by → tracks_of p.types number b ≡ w.tracks → is_tracker p number ≡ true → BodyIsOrderly w.tracks b → hold_calm p.types (calmly_copied_types p) (drop 1 b.variables) ≡ true → may_track p ≡ true → are_calmly_copied_in p x.cell.access ≡ false → may_be_frugal p ≡ true → is_thrifty_body (simple_allowance p.types) false b ≡ true → FrameIsSimple w.tracks.first (Elaborates b.declarations b.statements b.handlers)
+    pub adjusting_begins : IsOfCopy by → tracks_of p.types number b ≡ w.tracks → is_tracker p number ≡ true → BodyIsOrderly w.tracks b → list_all (λ y. holds_one_value y.kind) (drop 1 b.variables) ≡ true → may_track p ≡ true → body_shuns p.types (is_around x.cell.access) (bare_apart program) b ≡ true → may_be_frugal p ≡ true → is_thrifty_body (simple_allowance p.types) false b ≡ true → FrameIsSimple w.tracks.first (Elaborates b.declarations b.statements b.handlers)
         → ((e : Exception) → body_among (implicit_of p) (known_judged program number w.tracks []).program e ≡ true → ⊥)
         → CallApart p.types (is_tracker p) (seen_state w begun).control → RunsAsJudged → BeginsAsJudged → TypedAsJudged
         → (e : Event) (of : ℕ) → Alters s.heap e heap → WaitsFor p.types o of (begins by done) tasks k behind → Stands program gs (record s { activations = a ∷ rest }) → IsCalm (behind_call behind) → AreCalls gs
         → ((v : Value) → v ≢ Names o → NothingBegins v k)
-        → AdjustsIn program o x.cell.access record_type tasks w begun
-    adjusting_begins copies tracks_so tracker orderly alone_there tracking sees_to may frugal simple silent calls_apart runs_judged begins_judged typed_judged e of alters awaited stands calm settled untreated =
+        → AdjustsIn program o x.cell.access record_type tasks behind s.masters w begun
+    adjusting_begins copies tracks_so tracker orderly alone_there tracking shuns may frugal simple silent calls_apart runs_judged begins_judged typed_judged e of alters awaited stands calm settled untreated =
         let still = stands_kept program (record s { activations = a ∷ rest }) (behind_operation (a ∷ rest) behind s.masters (record s { heap = blank_heap })) gs stands e (record { procedure = refl; suspended = refl }) (alters_then s.heap heap blank_heap e alters (alters_blank e)) in
         let f : Adjusting program begun =
         record {
@@ -379,6 +389,7 @@ module _ (program : Program) (number : ℕ) (b : BodyForm) (there : slice_get (p
           after = k;
           awaited = awaited;
           lower = s.masters;
+          sparing = looks_elsewhere shuns;
           kept = kept;
           rooms = at.works.rooms;
           holds = at.works.holds;
@@ -399,7 +410,6 @@ module _ (program : Program) (number : ℕ) (b : BodyForm) (there : slice_get (p
           calm = calm;
           settled = settled;
           tracking = tracking;
-          sees_to = sees_to;
           may = may;
           silent = silent;
           bodies = (refl, stands.body, stands.behind, stands.bodies);
@@ -422,4 +432,4 @@ module _ (program : Program) (number : ℕ) (b : BodyForm) (there : slice_get (p
             },
           );
         } in
-        record { adjusting = f; object_is = refl; access_is = refl; record_is = refl; left_is = refl; view_is = refl }
+        record { adjusting = f; object_is = refl; access_is = refl; record_is = refl; left_is = refl; behind_is = refl; lower_is = refl; view_is = refl }

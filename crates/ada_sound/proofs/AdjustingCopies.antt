@@ -37,6 +37,7 @@ use Rattle.ada_program.specs.ProgramForm.{BodyForm, body_forms, program_form, se
 use Rattle.ada_program.specs.WellFormed.{IsWellFormed, kind_among, reached_components}
 use Rattle.ada_quiet.specs.Bare.{has_bare_objects}
 use Rattle.ada_quiet.specs.InUse.{may_track}
+use Rattle.ada_reaching.specs.Law as reaching
 use Rattle.ada_scopes.proofs.Components.{collect_two, items_fit}
 use Rattle.ada_scopes.proofs.Runs.{Scoped}
 use Rattle.ada_sound.specs.Agreement.{running_procedure}
@@ -51,16 +52,17 @@ use Rattle.ada_untouched.proofs.Law.{steps_alike}
 use Rattle.ada_untouched.specs.Alike.{NextAlike, StatesAlike}
 use Rattle.ada_untouched.specs.Untouched.{Untouched}
 use Rattle.ada_untouched.specs.Unwritten.{Unwritten}
-use Rattle.ada_sound.proofs.Adjusting.{Adjusting, AdjustingCopy, LeavesAlone, is_one_of, put_aside}
+use Rattle.ada_sound.proofs.Adjusting.{Adjusting, AdjustingCopy, LeavesAlone, is_one_of, put_aside, same_sparing}
 use Rattle.ada_sound.proofs.AdjustingEnds.{EndsCopy}
 use Rattle.ada_sound.proofs.AdjustingEnters.{filled_in_program}
-use Rattle.ada_sound.proofs.AdjustingGoes.{adjusting_goes, adjusting_returns, adjusting_stored, is_watched, none_comes_out}
+use Rattle.ada_sound.proofs.AdjustingGoes.{adjusting_goes, adjusting_returns, adjusting_stored, is_watched, none_comes_out, spares_on}
 use Rattle.ada_sound.proofs.AdjustingSeen.{simple_begins}
-use Rattle.ada_sound.proofs.AdjustingSteps.{GoesAdjusting, InAdjusting, IsOrderly, houses_none}
+use Rattle.ada_sound.proofs.AdjustingSteps.{GoesAdjusting, InAdjusting, IsOrderly, SparesOn, houses_none}
 use Rattle.ada_sound.proofs.Blanked.{alters_unblanked, blanked_at, ends_unblanked, out_blanked, says_unblanked, stored_unblanked, unblanked}
 use Rattle.ada_sound.proofs.CopiedOwners.{CopyLeft, NameThere, hiding, names_still, owners_left}
 use Rattle.ada_sound.proofs.Finalization.{parts_alive}
 use Rattle.ada_sound.proofs.FrugalControl.{is_return_first}
+use Rattle.ada_sound.proofs.HousesIts.{first_houses_its}
 use Rattle.ada_sound.proofs.WordsOut.{words_out}
 use Rattle.ada_sound.proofs.Invariant.{Control, EndsWell}
 use Rattle.ada_sound.proofs.NoneHidden.{blanked_none}
@@ -68,6 +70,7 @@ use Rattle.ada_sound.proofs.Operating.{InBody, StepsTo}
 use Rattle.ada_sound.proofs.PartsApart.{left_of_access}
 use Rattle.ada_sound.proofs.PutAside.{aside_here, hides_these, one_is_null, state_aside, state_is_aside, unwritten_aside, values_same}
 use Rattle.ada_sound.proofs.Returns.{CrossesTo, same_types}
+use Rattle.ada_sound.proofs.Sparing.{Sparing}
 use Rattle.ada_sound.proofs.Starts.{IsReached}
 use Rattle.ada_sound.proofs.StoredStates.{IsStored}
 use Rattle.ada_sound.proofs.TypedAside.{typed_aside}
@@ -179,9 +182,11 @@ module _ (program : Program) (s : State) (d : AdjustingCopy program s) where
   pub copy_stored : IsStored s.heap s.masters
   copy_stored = let there = adjusting_stored program (aside s) f in (there.0, stored_unblanked (hiding d.owners d.object) s.heap there.1)
 
-  -- What the body leaves of the components that are put aside.
+  -- What the body leaves of the components that are put aside; and how it looks at the object.
   abbrev Spares : State → Type 0
-  Spares after = ((y : Object) → object_at after.heap d.object ≡ Some y → NameThere after.heap (values_at d.owners y.cell.values)) × LeavesAlone f.w d.owners after
+  Spares after =
+      ((y : Object) → object_at after.heap d.object ≡ Some y → NameThere after.heap (values_at d.owners y.cell.values)) × LeavesAlone f.w d.owners after
+      × Sparing program f.w.object f.access f.behind f.lower after
 
   -- The body runs on, in the state where they are put aside and in the real one.
   copied_so : (e : Event) (after : State) → InAdjusting program (aside s) f e (aside after) → Spares after → InCopy program s.heap e after
@@ -202,6 +207,7 @@ module _ (program : Program) (s : State) (d : AdjustingCopy program s) where
           found = y.1;
           named = spares.0 y.0 y.1;
           leaves_alone = subst (λ (w : View). LeavesAlone w d.owners after) (sym run.1.view) spares.1;
+          sparing = rw (run.1.view, run.1.access, run.1.behind, run.1.lower) spares.2;
         };
         alters = a;
         says = says_unblanked (implicit_of (program_form program)) (seen_in (running_procedure after) (program_form program)) hides s.heap e (aside after) after refl run.0.says;
@@ -212,20 +218,28 @@ module _ (program : Program) (s : State) (d : AdjustingCopy program s) where
     nothing_aside : (t : State) → aside t ≡ t
     nothing_aside t = rw none (ap (λ (heap : List Object). record t { heap = heap }) (blanked_none d.object t.heap))
 
+    -- So the body looks at the object in the one as in the other.
+    none_spares : (e : Event) (after : State) → InAdjusting program (aside s) f e after → Sparing program f.w.object f.access f.behind f.lower after
+    none_spares e after run =
+        let g = run.0.body in
+        same_sparing program g.w.object g.access g.behind g.lower f.w.object f.access f.behind f.lower (sym (ap (λ (w : View). w.object) run.1.view)) (sym run.1.access)
+        (sym run.1.behind) (sym run.1.lower) after g.sparing
+
     none_on : GoesAdjusting program (aside s) f (next tds bodies (aside s)) → StepsTo (InCopy program s.heap) s (next tds bodies s)
     none_on goes =
         steps_so (InAdjusting program (aside s) f) (InCopy program s.heap)
-        (λ e after run. copied_so e after (subst (InAdjusting program (aside s) f e) (sym (nothing_aside after)) run) ((λ y at. rw none tt), inl none)) s (next tds bodies s)
+        (λ e after run. copied_so e after (subst (InAdjusting program (aside s) f e) (sym (nothing_aside after)) run) ((λ y at. rw none tt), inl none, none_spares e after run)) s
+        (next tds bodies s)
         (subst (λ (t : State). StepsTo (InAdjusting program (aside s) f) t (next tds bodies t)) (nothing_aside s) goes)
 
   -- Where some are, the body touches none of them.
-  module _ (reaches : ℕ → Bool) (beside : LieBeside f.w reaches (is_one_of d.owners)) (confined : IsConfined f.w reaches s) (watched : IsWatched f.w (places s) s.heap) (inner : is_return_first s.control ≡ false) where
+  module _ (reaches : ℕ → Bool) (beside : LieBeside f.w reaches (is_one_of d.owners)) (confined : IsConfined f.w reaches s) (watched : IsWatched f.w (places s) s.heap) (spares : SparesOn program f.w f.access f.behind f.lower s) (inner : is_return_first s.control ≡ false) where
     abbrev hidden : Id → (component : ℕ) → Bool
     hidden = hidden_beside f.w (is_one_of d.owners)
 
     stays : Untouched hidden no_ghosts s × Unwritten hidden s × AllGoOn f.w reaches s.heap (next tds bodies s)
     stays =
-        stays_within tds bodies f.w reaches (is_one_of d.owners) s beside watched
+        stays_within tds bodies f.w reaches (is_one_of d.owners) s beside watched spares.0
         (within_now f.w.tracks.first s.control s.masters inner f.simple (λ left k at. houses_none program (aside s) f left k at)) confined
 
     alike_next : NextAlike hidden no_ghosts (next tds bodies s) (next tds bodies (aside s))
@@ -260,8 +274,9 @@ module _ (program : Program) (s : State) (d : AdjustingCopy program s) where
 
     -- So the real state goes on as the other one does.
     both_on : (choice : Choice) (e : Event) (after t : State) → Leads (next tds bodies s) choice e after → Leads (next tds bodies (aside s)) choice e t
-        → StatesAlike hidden no_ghosts after t → GoesOn f.w reaches s.heap after → InAdjusting program (aside s) f e t → InCopy program s.heap e after
-    both_on choice e after t leads leads_too alike goes run =
+        → StatesAlike hidden no_ghosts after t → GoesOn f.w reaches s.heap after → Sparing program f.w.object f.access f.behind f.lower after
+        → InAdjusting program (aside s) f e t → InCopy program s.heap e after
+    both_on choice e after t leads leads_too alike goes spared run =
         let t_is : t ≡ aside after =
         subst (λ (o : Id). t ≡ put_aside d.owners o after) view_object
         (state_is_aside f.w d.owners after t alike (λ c y u at is holds. null_there choice e t leads_too c y u (subst (λ (o : Id). object_at t.heap o ≡ Some y) view_object at) is holds)) in
@@ -270,24 +285,25 @@ module _ (program : Program) (s : State) (d : AdjustingCopy program s) where
           (λ y at. rw (values_same d.owners y.cell.values d.x.cell.values (held_there choice e after leads y at))
               (names_still s.heap after.heap (values_at d.owners d.x.cell.values) (there_still after.heap goes.none_ceases) d.named)),
           inr (reaches, beside, goes.confined),
+          spared,
         )
 
     next_on : (n m : Next) → next tds bodies s ≡ n → next tds bodies (aside s) ≡ m → NextAlike hidden no_ghosts n m → AllGoOn f.w reaches s.heap n
-        → GoesAdjusting program (aside s) f m → StepsTo (InCopy program s.heap) s n
-    next_on (halts halt) m n_is m_is alike on goes =
+        → reaching.AllGoOn (Sparing program f.w.object f.access f.behind f.lower) n → GoesAdjusting program (aside s) f m → StepsTo (InCopy program s.heap) s n
+    next_on (halts halt) m n_is m_is alike on spared goes =
         let ends : EndsWell halt (aside s).heap s.masters = subst (GoesAdjusting program (aside s) f) alike goes in
         ends_unblanked (hiding d.owners d.object) halt s.heap s.masters ends
-    next_on (moves e after) m n_is m_is (t, is, alike, spares) on goes =
-        both_on settled e after t (rw n_is (refl, refl)) (rw (m_is, is) (refl, refl)) alike on (subst (GoesAdjusting program (aside s) f) is goes)
-    next_on (tells request e after) m n_is m_is (t, is, alike, spares) on goes =
-        both_on settled e after t (rw n_is (refl, refl)) (rw (m_is, is) (refl, refl)) alike on (subst (GoesAdjusting program (aside s) f) is goes)
-    next_on (asks request answered) m n_is m_is (answers, is, alike) on goes = λ granted.
+    next_on (moves e after) m n_is m_is (t, is, alike, kept) on spared goes =
+        both_on settled e after t (rw n_is (refl, refl)) (rw (m_is, is) (refl, refl)) alike on spared (subst (GoesAdjusting program (aside s) f) is goes)
+    next_on (tells request e after) m n_is m_is (t, is, alike, kept) on spared goes =
+        both_on settled e after t (rw n_is (refl, refl)) (rw (m_is, is) (refl, refl)) alike on spared (subst (GoesAdjusting program (aside s) f) is goes)
+    next_on (asks request answered) m n_is m_is (answers, is, alike) on spared goes = λ granted.
         (let all : GoesAdjusting program (aside s) f (asks request answers) = subst (GoesAdjusting program (aside s) f) is goes in
-        both_on (grants granted) Quiet (answered granted) (answers granted) (rw n_is (refl, refl)) (rw (m_is, is) (refl, refl)) (alike granted) (on granted) (all granted))
-    next_on (picks n taken) m n_is m_is alike on goes = absurd on
+        both_on (grants granted) Quiet (answered granted) (answers granted) (rw n_is (refl, refl)) (rw (m_is, is) (refl, refl)) (alike granted) (on granted) (spared granted) (all granted))
+    next_on (picks n taken) m n_is m_is alike on spared goes = absurd on
 
     some_on : GoesAdjusting program (aside s) f (next tds bodies (aside s)) → StepsTo (InCopy program s.heap) s (next tds bodies s)
-    some_on goes = next_on (next tds bodies s) (next tds bodies (aside s)) refl refl alike_next stays.2 goes
+    some_on goes = next_on (next tds bodies s) (next tds bodies (aside s)) refl refl alike_next stays.2 spares.1 goes
 
 -- The body runs behind a step, or what waits for it goes on.
 abbrev pub WentOn : (program : Program) (s : State) → AdjustingCopy program s → Event → State → Type 0
@@ -335,10 +351,17 @@ module _
   watched : IsWatched g.w (places s) s.heap
   watched = is_watched program well may (put_aside d.owners d.object s) g s.heap typing d.x real_found real_like.0 real_like.1
 
+  -- The body looks at the object by its formal parameter alone in the real state, too.
+  spared : is_return_first s.control ≡ false → SparesOn program g.w g.access g.behind g.lower s
+  spared inner =
+      let stored = copy_stored program s d in
+      spares_on program well may (put_aside d.owners d.object s) g s.heap typing d.x real_found real_like.0 inner
+      (first_houses_its s.control s.heap s.masters stored.1) d.sparing
+
   inner_on : is_return_first s.control ≡ false → StepsTo (InCopy program s.heap) s (next program.types.items (body_forms program) s)
   inner_on inner =
       let goes = adjusting_goes program well may frees (put_aside d.owners d.object s) (orderly_aside program well s reached d.owners d.object g nested) typing_aside g exists inner in
-      elim d.leaves_alone [ inl none ↦ none_on program s d none goes | inr (reaches, beside, confined) ↦ some_on program s d reaches beside confined watched inner goes ]
+      elim d.leaves_alone [ inl none ↦ none_on program s d none goes | inr (reaches, beside, confined) ↦ some_on program s d reaches beside confined watched (spared inner) inner goes ]
 
   ends_copy : EndsCopy program (put_aside d.owners d.object s) g s.heap
   ends_copy = record {

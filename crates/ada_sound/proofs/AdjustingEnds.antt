@@ -24,7 +24,7 @@ use Rattle.ada_meaning.specs.Named.{Object, State, named, next, object_at}
 use Rattle.ada_owners.specs.Places.{access_at}
 use Rattle.ada_owners.proofs.Objects.{present_at}
 use Rattle.ada_tracked.specs.Frames.{View, blanked, tracked_values, values_at}
-use Rattle.ada_tracked.specs.Seen.{ArePlaces, IsWatched, seen_state}
+use Rattle.ada_tracked.specs.Seen.{FormalIsFirst, IsWatched, seen_state}
 use Rattle.ada_tracked.proofs.Law.{plainly_at_end}
 use Rattle.ada_typed.proofs.Bodies.{seen_as}
 use Rattle.ada_typed.proofs.Control as typed
@@ -75,18 +75,18 @@ GetBack program s f =
     → FitsOn (judged_of program s f).program.types (outers (judged_of program s f)) s.heap
 
 -- The formal parameter is the first variable.
-formal_first : (w : View) (vs : List Value) → ArePlaces w vs → (place : Place) × (more : List Value) × (vs ≡ Part w.object place ∷ more) × (place.component ≡ w.base)
-formal_first w [] places = absurd places
-formal_first w (Null ∷ vs) places = absurd places.0
-formal_first w (Names o ∷ vs) places = absurd places.0
-formal_first w (Scalar v ∷ vs) places = absurd places.0
-formal_first w (Part o place ∷ vs) ((same, based), others) = (place, vs, rw same refl, based)
+formal_first : (w : View) (vs : List Value) → FormalIsFirst w vs → (place : Place) × (more : List Value) × (vs ≡ Part w.object place ∷ more) × (place.component ≡ w.base)
+formal_first w [] formal = absurd formal
+formal_first w (Null ∷ vs) formal = absurd formal
+formal_first w (Names o ∷ vs) formal = absurd formal
+formal_first w (Scalar v ∷ vs) formal = absurd formal
+formal_first w (Part o place ∷ vs) (same, based) = (place, vs, rw same refl, based)
 
 -- What that refers to, where the real state is typed.
 module _ (program : Program) (number : ℕ) (b : BodyForm) (w : View) (s : State) (watches : IsWatched w (places s) s.heap) (components : TracksComponents (program_form program).types w.tracks b.variables) (inside : typed.TypedIn (seen_by number b (program_form program)) s) where
   watched_within : IsWithin (program_form program).types (variable_kind b.variables 0) watches.object.cell.access w.base
   watched_within =
-      let (place, more, is, based) = formal_first w (places s) watches.variables in
+      let (place, more, is, based) = formal_first w (places s) watches.formal in
       let holds = formal_holds program number b w.object place s (more, is) watches.object watches.at_object inside in
       let within : IsWithin (program_form program).types (variable_kind b.variables 0) watches.object.cell.access place.component =
       formal_within (program_form program).types (variable_kind b.variables 0) w.object watches.object.cell.access place components.object components.formal (rw components.formal at holds) in
@@ -142,7 +142,7 @@ module _ (program : Program) (s : State) (f : Adjusting program s) (a b : Activa
 
   -- What stands for it.
   stands_so : f.t ≡ seen_state f.w parts
-  stands_so = (plainly_at_end program.types.items (program_form program).bodies f.w s f.t [] [] f.behind f.seen ends_now).1 ∙ ap (seen_state f.w) (sym parts_are)
+  stands_so = plainly_at_end program.types.items (program_form program).bodies f.w s f.t [] [] f.behind f.seen ends_now ∙ ap (seen_state f.w) (sym parts_are)
 
   ready_there : Ready running (seen_state f.w parts)
   ready_there = subst (λ (t : State). Ready running t) stands_so f.ready

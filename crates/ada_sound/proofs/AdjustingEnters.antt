@@ -1,12 +1,12 @@
 -- Where the Adjust of a copy is called that tracks components (7.6): where its part begins in the object, which components it tracks, and what waits for it.
 
-use Rattle.std.proofs.Common.{◌≡◌, ℕ, zero, suc, Bool, true, false, not, List, [], ◌∷◌, length, map, take, refl, sym, ap, ◌∙◌, subst, ◌≢◌, ◌⊎◌, ◌+◌, ◌<◌, ◌++◌}
+use Rattle.std.proofs.Common.{◌≡◌, ℕ, zero, suc, Bool, true, false, List, [], ◌∷◌, length, map, take, refl, sym, ap, ◌∙◌, subst, ◌≢◌, ◌⊎◌, ◌+◌, ◌<◌, ◌++◌}
 use Rattle.std.proofs.lemmas.Bool.{eq-eqb}
 use Rattle.std.proofs.lemmas.List.Elements.{Contains-append_left, Contains-append_right}
 use Rattle.std.proofs.lemmas.Option.{slice_get-map}
 use Rattle.std.specs.List.{slice_get, slice_index_or, Contains}
 use Rattle.std.specs.Option.{option_map}
-use Rattle.std.specs.Prelude.{Option, Some, None, is_some, if◌then◌else◌, ◌==◌}
+use Rattle.std.specs.Prelude.{Option, Some, None, if◌then◌else◌, ◌==◌}
 use Rattle.ada_deeds.specs.Implicit.{implicit_of}
 use Rattle.ada_flow.specs.Flow.{adjusts, is_procedure, object_record, tracked_by_adjust, tracked_of, tracks_of}
 use Rattle.ada_flow.specs.Tracking.{access_numbers, tracks_behind}
@@ -41,9 +41,7 @@ use Rattle.ada_program.specs.declared.program.TypeNo.{TypeNo}
 use Rattle.ada_program.specs.declared.program.VariableKind.TheVariants as variable
 use Rattle.ada_program.specs.declared.program.VariableKind.{VariableKind}
 use Rattle.ada_quiet.specs.Bare.{has_bare_objects}
-use Rattle.ada_quiet.specs.Calm.{are_calmly_copied_in}
 use Rattle.ada_quiet.specs.InUse.{may_track, count_found}
-use Rattle.ada_quiet.specs.Quiet.{adjusts_access, has_access, operation_body}
 use Rattle.ada_sound.proofs.Adjusting.{is_one_of}
 use Rattle.ada_sound.proofs.AdjustingBegins.{AllName, Copied}
 use Rattle.ada_sound.proofs.BareObjects.{holder_is_not_bare}
@@ -60,8 +58,7 @@ use Rattle.ada_sound.proofs.OnlyRows.{AreCopiedInOrder}
 use Rattle.ada_sound.proofs.PartsApart.{PartWithin, beside, called_sees, called_there, left_of_access, owner_below, shifted_cases, type_numbered}
 use Rattle.ada_sound.proofs.PutAside.{not_numbered}
 use Rattle.ada_sound.proofs.Returns.{same_types}
-use Rattle.ada_sound.proofs.CalmTypes.{not_calm}
-use Rattle.ada_sound.proofs.Trackers.{order_too, owns_access}
+use Rattle.ada_sound.proofs.Trackers.{order_too}
 use Rattle.ada_sound.proofs.TracksWell.{copied_in_order}
 use Rattle.ada_sound.proofs.Treatments.{BeginsAdjust}
 use Rattle.ada_sound.proofs.TypedAside.{filled_aside}
@@ -81,11 +78,6 @@ use Rattle.ada_typed.specs.Holding.{Cells, Designates, HasKind, HaveKinds, cells
 -- In a typed state each object is filled and has its parts, as the program has the types.
 pub filled_in_program : (p : ProgramForm) (procedure : Option ℕ) (s : State) → typed.TypedIn (seen_in procedure p) s → AreFilled p.types (cells_of s.heap) (cells_of s.heap)
 filled_in_program p procedure s typing = same_filled p procedure (cells_of s.heap) (filled_in (seen_in procedure p) s typing)
-
--- A body overrides an operation, where what overrides it has one.
-overridden_there : (p : ProgramForm) (o : Option ProcedureNo) (number : ℕ) (b : BodyForm) → procedure_number o ≡ Some number → slice_get p.bodies number ≡ Some b → is_some (operation_body p o) ≡ true
-overridden_there p None number b is there = absurd (cc is)
-overridden_there p (Some procedure) number b is there = let same : procedure.0 ≡ number = cc is in rw (same, there) refl
 
 -- The kind of the first variable is that of the only formal parameter.
 first_kind : (variables : List VariableForm) (n : ℕ) (kind : VariableKind) → map (λ (v : VariableForm). v.kind) (take n variables) ≡ kind ∷ [] → variable_kind variables 0 ≡ Some kind
@@ -434,17 +426,6 @@ module _ (program : Program) (well : IsWellFormed (program_form program)) where
       -- The object is a declared one.
       pub copy_parted : has_bare_objects p.types access ≡ false
       copy_parted = called_parted access r c.of c.part c.tasks copy_left
-
-      -- And it has a part whose Adjust tracks components: this one, which a body overrides.
-      pub copy_sees_to : are_calmly_copied_in p access ≡ false
-      copy_sees_to =
-          let record_type = copy_record.placed.record_type in
-          let form = record_of copy_sees.name copy_sees.parts copy_sees.components (Some copy_sees.finalization) in
-          let owns : has_access (Some form) ≡ true = sym (owns_access copy_sees.parts) ∙ copy_sees.declares in
-          let adjust = own_adjust record_type c.of copy_sees c.by c.copies c.number c.called in
-          let overridden = overridden_there p copy_sees.finalization.operations.adjust c.number c.b adjust c.there in
-          not_calm p (λ t. not (adjusts_access p t)) well record_type copy_record.placed.base c.part access form copy_sees.at (rw (owns, overridden) refl) copy_parted
-          copy_record.placed.walk
 
       -- The waiting activation goes on but for them.
       pub copy_works : Working known (blanked copy_view copy_heap) a.places s.masters (λ rooms holds. RunsOn known k rooms holds × AdjustsAside known access r holds)

@@ -4,7 +4,7 @@
 use Rattle.std.proofs.Common.{◌≡◌, ℕ, true, false, List, [], ◌∷◌, ◌++◌, refl, sym, ap, ◌∙◌, subst, drop, length}
 use Rattle.std.proofs.lemmas.Bool.{and_parts}
 use Rattle.std.specs.Prelude.{Option, Some}
-use Rattle.std.specs.List.{slice_get}
+use Rattle.std.specs.List.{list_all, slice_get}
 use Rattle.ada_deeds.specs.Implicit.{implicit_of}
 use Rattle.ada_flow.specs.Tracking.{Tracks}
 use Rattle.ada_judged.proofs.FittingBodies.{tracked_fit_as_variables}
@@ -18,8 +18,9 @@ use Rattle.ada_meaning.specs.declared.state.Value.{Value}
 use Rattle.ada_meaning.specs.Step.{halts, moves, tells, asks, picks, older, operands, places}
 use Rattle.ada_program.specs.declared.program.Program.{Program}
 use Rattle.ada_program.specs.Freed.{FreesItsOwn}
-use Rattle.ada_program.specs.ProgramForm.{BodyForm, ProgramForm, TypeForm, body_forms, main_body, program_form, seen_in, record_of}
-use Rattle.ada_program.specs.WellFormed.{IsWellFormed, access_of, kind_among, reached_components}
+use Rattle.ada_program.specs.ProgramForm.{BodyForm, ProgramForm, body_forms, main_body, program_form, seen_by, seen_in, record_of}
+use Rattle.ada_program.specs.WellFormed.{IsWellFormed}
+use Rattle.ada_reaching.specs.Law.{FirstHousesIts}
 use Rattle.ada_tracked.proofs.Law.{plainly_at_end}
 use Rattle.ada_program.specs.declared.program.Exception.{Exception}
 use Rattle.ada_flow.specs.Flow.{Holds}
@@ -32,20 +33,23 @@ use Rattle.ada_typed.proofs.Control.{OwnBody}
 use Rattle.ada_typed.proofs.Evaluations as evaluated
 use Rattle.ada_typed.proofs.Kept.{Behind, Each, behind_call}
 use Rattle.ada_judged.specs.Obeying.{BodyIsOrderly}
-use Rattle.ada_quiet.specs.Calm.{calmly_copied_types, has_calm_objects}
+use Rattle.ada_quiet.specs.Simple.{holds_one_value}
 use Rattle.ada_quiet.specs.InUse.{is_copied_in_order, stand_in_a_row, adjusts_itself, may_track}
 use Rattle.ada_sound.proofs.Allowance.{simple_allowance}
+use Rattle.ada_sound.specs.Agreement.{running_procedure}
 use Rattle.ada_sound.proofs.Adjusting.{Adjusting, waiting}
 use Rattle.ada_sound.proofs.AdjustingCore.{judged_keeps}
 use Rattle.ada_sound.proofs.AdjustingEnds.{EndsCopy, GetBack, adjusting_ends, gets_back, judged_of}
 use Rattle.ada_sound.proofs.AdjustingKept.{IsJudged}
-use Rattle.ada_sound.proofs.AdjustingSteps.{GoesAdjusting, IsOrderly, adjusting_step}
+use Rattle.ada_sound.proofs.AdjustingSteps.{GoesAdjusting, IsOrderly, SparesOn, adjusting_step}
 use Rattle.ada_sound.proofs.Blanked.{stored_unblanked}
 use Rattle.ada_sound.proofs.Callers.{AreOf}
 use Rattle.ada_sound.proofs.CopiedOwners.{CopiesWell}
 use Rattle.ada_sound.proofs.FrugalControl.{Frugal, Frugally, frugal_ends, is_return_first}
+use Rattle.ada_sound.proofs.HousesIts.{first_houses_its}
 use Rattle.ada_sound.proofs.Invariant.{Control, GoesOn, Ready, ReadyIn, Rooms}
 use Rattle.ada_sound.proofs.AdjustingSeen.{stands_for}
+use Rattle.ada_sound.proofs.Sparing.{Sparing, stays_sparing}
 use Rattle.ada_sound.proofs.Stored.{Stored}
 use Rattle.ada_sound.proofs.StoredStates.{IsStored, ready_stored}
 use Rattle.ada_sound.proofs.Judged.{judged_in}
@@ -55,9 +59,8 @@ use Rattle.ada_sound.proofs.OnlyParts.{passed_at}
 use Rattle.ada_sound.proofs.Returns.{CrossesTo, same_types}
 use Rattle.ada_sound.proofs.TracksApart.{AreInARow, tracks_apart}
 use Rattle.ada_sound.proofs.TracksWell.{copied_in_order, tracked_well}
-use Rattle.ada_sound.proofs.Trackers.{calls_stand_apart, names_none_too, order_too, stands_apart}
-use Rattle.ada_sound.proofs.CalmTypes.{components_are_calm}
-use Rattle.ada_sound.proofs.WatchedBy.{hold_calm, watched_by}
+use Rattle.ada_sound.proofs.Trackers.{calls_stand_apart, order_too, stands_apart}
+use Rattle.ada_sound.proofs.WatchedBy.{watched_by}
 
 -- What a body frees as it is judged it frees by the instance for that (13.11.2).
 pub judged_owns : (p : ProgramForm) → FreesItsOwn p → (number : ℕ) (b : BodyForm) (tracks : Tracks) → slice_get p.bodies number ≡ Some b → TracksComponents p.types tracks b.variables → BodyIsOrderly tracks b
@@ -124,29 +127,29 @@ module _
   pub inside : typed.TypedIn own (record s { heap = heap })
   inside = subst (λ (procedure : Option ℕ). typed.TypedIn (seen_in procedure p) (record s { heap = heap })) f.runs typing.inside
 
-  -- The object has a part whose Adjust tracks.
-  other_there : has_calm_objects own.types (calmly_copied_types p) x.cell.access ≡ false
-  other_there =
-      subst (λ (types : List TypeForm). has_calm_objects types (calmly_copied_types p) x.cell.access ≡ false) (sym (same_types (Some f.number) p)) (rw of_access f.sees_to)
-
-  -- And no component names such an object.
-  components_there :
-      (holder c access : ℕ) → access_of (kind_among (reached_components own.types holder) c) ≡ Some access → has_calm_objects own.types (calmly_copied_types p) access ≡ true
-  components_there =
-      subst
-      (λ (types : List TypeForm). (holder c access : ℕ) → access_of (kind_among (reached_components types holder) c) ≡ Some access → has_calm_objects types (calmly_copied_types p) access ≡ true)
-      (sym (same_types (Some f.number) p)) (components_are_calm p.types (calmly_copied_types p) (names_none_too p may))
-
   -- The object is watched, where it exists.
   pub is_watched : x.stage ≡ Existing → IsWatched f.w (places s) heap
   is_watched exists =
       let here = sym (seen_as p f.number f.b f.there) in
-      watched_by own (tables_in own (seen_fits p well (Some f.number))) (calmly_copied_types p) f.w (tracks_seen p f.number f.b f.w.tracks f.there f.components) (record s { heap = heap }) f.place x inside
+      watched_by own (tables_in own (seen_fits p well (Some f.number))) f.w (tracks_seen p f.number f.b f.w.tracks f.there f.components) (record s { heap = heap }) f.place x inside
       (rw f.object_so f.formal) f.based (subst (λ (q : ProgramForm). length (places s) ≡ length q.variables) here f.count)
-      (rw f.object_so found) exists other_there
-      (subst (λ (types : List TypeForm). hold_calm types (calmly_copied_types p) (drop 1 own.variables) ≡ true) (sym (same_types (Some f.number) p)) (subst (λ (q : ProgramForm). hold_calm p.types (calmly_copied_types p) (drop 1 q.variables) ≡ true) here f.lone))
-      components_there
+      (rw f.object_so found) exists
       (subst (λ (tracks : Tracks). AreApart tracks.components) f.tracks_so (tracks_apart p.types (in_a_row p well may) f.number f.b))
+
+  -- What the running body sees: it is that of the Adjust.
+  runs_here : seen_in (running_procedure s) p ≡ seen_by f.number f.b p
+  runs_here = ap (λ (procedure : Option ℕ). seen_in procedure p) f.runs ∙ seen_as p f.number f.b f.there
+
+  -- It looks at the object by its formal parameter alone, and does so behind the next step, unless that ends it.
+  pub spares_on :
+      is_return_first s.control ≡ false → FirstHousesIts s.control heap s.masters → Sparing program f.w.object f.access f.behind f.lower (record s { heap = heap })
+      → SparesOn program f.w f.access f.behind f.lower (record s { heap = heap })
+  spares_on inner houses sparing =
+      subst (λ (access : ℕ). SparesOn program f.w access f.behind f.lower (record s { heap = heap })) of_access
+      (stays_sparing program well (record s { heap = heap }) typing
+      (subst (λ (q : ProgramForm). list_all (λ y. holds_one_value y.kind) (drop 1 q.variables) ≡ true) (sym runs_here) f.lone) f.w x (rw f.object_so found) f.simple inner
+      houses f.behind f.lower
+      (subst (λ (access : ℕ). Sparing program f.w.object access f.behind f.lower (record s { heap = heap })) (sym of_access) sparing))
 
 some_same : {x y : Behind} → Some x ≡ Some y → x ≡ y
 some_same e = cc e
@@ -160,7 +163,7 @@ own_end behind (g ∷ k) ends first = absurd (cc first)
 -- What waits awaits it, and its masters have been left.
 module _ (program : Program) (s : State) (f : Adjusting program s) (ends_now : s.control ≡ Returns [] [] ∷ f.behind) where
   stands_so : f.t ≡ seen_state f.w s
-  stands_so = (plainly_at_end program.types.items (program_form program).bodies f.w s f.t [] [] f.behind f.seen ends_now).1
+  stands_so = plainly_at_end program.types.items (program_form program).bodies f.w s f.t [] [] f.behind f.seen ends_now
 
   frugal_now : Frugally (simple_allowance (program_form program).types) f.lower f.behind [] (seen_state f.w s)
   frugal_now = subst (Frugally (simple_allowance (program_form program).types) f.lower f.behind []) stands_so f.frugal
@@ -211,8 +214,10 @@ pub adjusting_goes :
     → (s : State) → IsOrderly program s → typed.Typed (program_form program) s → (f : Adjusting program s) → f.x.stage ≡ Existing → is_return_first s.control ≡ false
     → GoesAdjusting program s f (next program.types.items (body_forms program) s)
 adjusting_goes program well may frees s orderly typing f exists inner =
+    let stored = adjusting_stored program s f in
     adjusting_step program well s orderly f (is_judged program well may frees f.number f.b f.w.tracks f.there f.components f.orderly)
-    (is_watched program well may s f s.heap typing f.x f.found f.of_access exists) inner
+    (is_watched program well may s f s.heap typing f.x f.found f.of_access exists)
+    (spares_on program well may s f s.heap typing f.x f.found f.of_access inner (first_houses_its s.control s.heap s.masters stored.1) f.sparing) inner
 
 -- Its end, where what is called later for the copy sees to components that hold null here.
 pub adjusting_returns :

@@ -194,9 +194,9 @@ stands_by w s t l vs is = rw is (record {
 
 pub stands_for : (types : List TypeDefinition) (bodies : List BodyForm) (w : View) (s t : State) → Seen types bodies w s t → StandsFor w s t
 stands_for types bodies w s t (plainly others is) = stands_by w s t _ _ is
-stands_for types bodies w s t (following c cs k running_is control_is others l vs is goes_on) = stands_by w s t l vs is
-stands_for types bodies w s t (elsewhere waiting c k vs running_is control_is operands_are others none is) = stands_by w s t _ _ is
-stands_for types bodies w s t (delayed waiting c x spot fs k vs running_is control_is operands_are others is stood) = stands_by w s t _ _ stood
+stands_for types bodies w s t (following c cs k running_is control_is l vs is goes_on) = stands_by w s t l vs is
+stands_for types bodies w s t (elsewhere waiting c k vs running_is control_is operands_are none is) = stands_by w s t _ _ is
+stands_for types bodies w s t (delayed waiting c x spot fs k vs running_is control_is operands_are is stood) = stands_by w s t _ _ stood
 
 -- What is left to do behind a call.
 abbrev left_of : Option Behind → Control
@@ -272,12 +272,12 @@ module _ (types : List TypeDefinition) (bodies : List BodyForm) (w : View) where
 
   pub seen_within : (s t : State) → Seen types bodies w s t → BodyIsSimple w.tracks.first s.control → is_return_first s.control ≡ false → (older s.activations ≡ [] → ⊥) → IsWithin t.control
   seen_within s t (plainly others is) simple inner some = rw is (plain_first s.control simple inner)
-  seen_within s t (following c cs k running_is control_is others l vs is goes_on) simple inner some =
+  seen_within s t (following c cs k running_is control_is l vs is goes_on) simple inner some =
       subst (λ (u : State). IsWithin u.control) (sym is)
       (follows_on c cs k l s.mode s.control s (standing w s l vs) running_is control_is (standing_older (tracked_values w s.heap) vs s.activations) some
       (subst (λ (u : State). next types bodies u ≡ next types bodies (seen_state w s)) is goes_on))
-  seen_within s t (elsewhere waiting c k vs running_is control_is operands_are others none is) simple inner some = rw is (plain_first s.control simple inner)
-  seen_within s t (delayed waiting c x spot fs k vs running_is control_is operands_are others is stood) simple inner some = rw stood (refl, refl)
+  seen_within s t (elsewhere waiting c k vs running_is control_is operands_are none is) simple inner some = rw is (plain_first s.control simple inner)
+  seen_within s t (delayed waiting c x spot fs k vs running_is control_is operands_are is stood) simple inner some = rw stood (refl, refl)
 
   -- Where a treatment is next in the real state, it is so in the other one.
   no_treatment : (waiting : Waiting) (c : ℕ) (k l : Control) (v : Value) (treatment : frame.Treatment) (tasks : List Task) → waiting_frame waiting c ∷ k ≡ frame.Treats v treatment tasks ∷ l → ⊥
@@ -290,10 +290,10 @@ module _ (types : List TypeDefinition) (bodies : List BodyForm) (w : View) where
   treated_not frugal none_parts none_objects back among s t ms v treatment tasks k (plainly others is) frugally e =
       let control : t.control ≡ frame.Treats v treatment tasks ∷ seen_control w k = rw (is, e) refl in
       treats_none frugal none_parts none_objects back among t.mode t.control ms frugally v treatment tasks (seen_control w k) control
-  treated_not frugal none_parts none_objects back among s t ms v treatment tasks k (following c cs j running_is control_is others l vs is goes_on) frugally e = absurd (cc (control_is, e))
-  treated_not frugal none_parts none_objects back among s t ms v treatment tasks k (elsewhere waiting c j vs running_is control_is operands_are others none is) frugally e =
+  treated_not frugal none_parts none_objects back among s t ms v treatment tasks k (following c cs j running_is control_is l vs is goes_on) frugally e = absurd (cc (control_is, e))
+  treated_not frugal none_parts none_objects back among s t ms v treatment tasks k (elsewhere waiting c j vs running_is control_is operands_are none is) frugally e =
       no_treatment waiting c j k v treatment tasks (sym control_is ∙ e)
-  treated_not frugal none_parts none_objects back among s t ms v treatment tasks k (delayed waiting c x spot fs j vs running_is control_is operands_are others is stood) frugally e =
+  treated_not frugal none_parts none_objects back among s t ms v treatment tasks k (delayed waiting c x spot fs j vs running_is control_is operands_are is stood) frugally e =
       no_treatment waiting c (Does fs ∷ j) k v treatment tasks (sym control_is ∙ e)
 
   -- So what is left to do stays simple.
@@ -309,6 +309,6 @@ module _ (types : List TypeDefinition) (bodies : List BodyForm) (w : View) where
 
   pub seen_leaves : (s t : State) (mode : Mode) (k : Control) → Seen types bodies w s t → s.control ≡ Leaves mode ∷ k → (j : Control) × (t.control ≡ Leaves mode ∷ j)
   seen_leaves s t mode k (plainly others is) e = (seen_control w k, rw (is, e) refl)
-  seen_leaves s t mode k (following c cs j running_is control_is others l vs is goes_on) e = absurd (cc (control_is, e))
-  seen_leaves s t mode k (elsewhere waiting c j vs running_is control_is operands_are others none is) e = absurd (no_leaving waiting c j k mode (sym control_is ∙ e))
-  seen_leaves s t mode k (delayed waiting c x spot fs j vs running_is control_is operands_are others is stood) e = absurd (no_leaving waiting c (Does fs ∷ j) k mode (sym control_is ∙ e))
+  seen_leaves s t mode k (following c cs j running_is control_is l vs is goes_on) e = absurd (cc (control_is, e))
+  seen_leaves s t mode k (elsewhere waiting c j vs running_is control_is operands_are none is) e = absurd (no_leaving waiting c j k mode (sym control_is ∙ e))
+  seen_leaves s t mode k (delayed waiting c x spot fs j vs running_is control_is operands_are is stood) e = absurd (no_leaving waiting c (Does fs ∷ j) k mode (sym control_is ∙ e))

@@ -2,7 +2,7 @@
 
 use Rattle.std.proofs.Common.{◌≡◌, ◌≢◌, ℕ, true, false, List, [], ◌∷◌, length, drop, refl, sym, ap, subst, ◌∙◌, Bool, ◌+◌, ◌<◌, ◌≤◌, inl, inr, arith}
 use Rattle.std.proofs.lemmas.Bool.{eqb-true, ltb-true}
-use Rattle.std.specs.List.{slice_get}
+use Rattle.std.specs.List.{list_all, slice_get}
 use Rattle.std.specs.Prelude.{Option, Some, None}
 use Rattle.ada_beside.specs.Law.{LieBeside}
 use Rattle.ada_deeds.specs.Implicit.{implicit_of}
@@ -26,7 +26,7 @@ use Rattle.ada_meaning.specs.declared.state.Value.{Value}
 use Rattle.ada_parts.specs.Task.{Task, performs}
 use Rattle.ada_program.specs.Controlled.{operations_of}
 use Rattle.ada_program.specs.ProgramForm.{ProgramForm, TypeForm, body_forms, main_body, program_form, seen_by, seen_in}
-use Rattle.ada_program.specs.WellFormed.{IsWellFormed, access_of, kind_among, reached_components, variable_kind, count_said, finalization_in, part_count, record_components}
+use Rattle.ada_program.specs.WellFormed.{IsWellFormed, reached_components, variable_kind, count_said, finalization_in, part_count, record_components}
 use Rattle.ada_program.specs.declared.program.ComponentKind.{ComponentKind}
 use Rattle.ada_program.specs.declared.program.Finalization.{Finalization}
 use Rattle.ada_program.specs.declared.program.Program.{Program}
@@ -35,19 +35,18 @@ use Rattle.ada_quiet.specs.Apart.{body_calls_apart, is_tracker}
 use Rattle.ada_quiet.specs.Bare.{has_bare_objects}
 use Rattle.ada_quiet.specs.Idle.{copies_parts}
 use Rattle.ada_quiet.specs.InUse.{may_be_frugal, adjusts_alone, count_found, has_one_part}
-use Rattle.ada_quiet.specs.Simple.{is_simple_body}
-use Rattle.ada_quiet.specs.Calm.{are_calmly_copied_in, calmly_copied_types, has_calm_objects}
-use Rattle.ada_sound.specs.Always.{LetsNothingOut}
+use Rattle.ada_quiet.specs.Simple.{holds_one_value, is_simple_body}
+use Rattle.ada_reaching.specs.Forms.{body_shuns}
+use Rattle.ada_sound.specs.Always.{LetsNothingOut, SparesAdjusted, SparesOwn}
 use Rattle.ada_sound.proofs.AdjustedParts.{adjusted_frees}
-use Rattle.ada_sound.proofs.Adjusting.{IsOfCopy, copied, assigned, AdjustingCopy, LeavesAlone, is_one_of}
+use Rattle.ada_sound.proofs.Adjusting.{IsOfCopy, copied, assigned, AdjustingCopy, LeavesAlone, is_one_of, same_sparing}
 use Rattle.ada_sound.proofs.AdjustingBegins.{Copied, adjusting_begins, begins_as_judged, AdjustsIn}
-use Rattle.ada_sound.proofs.AdjustingEnters.{adjust_called, called_operable, copied_type, copied_where_called, copy_among, copy_tracks, copy_view, called_left, copy_beside, copy_declares, copy_found, copy_heap, copy_left, copy_names_left, copy_object, copy_of_access, copy_owners, copy_record, copy_sees_to, formal_components, not_one}
+use Rattle.ada_sound.proofs.AdjustingEnters.{adjust_called, called_operable, copied_type, copied_where_called, copy_among, copy_tracks, copy_view, called_left, copy_beside, copy_declares, copy_found, copy_heap, copy_left, copy_names_left, copy_object, copy_of_access, copy_owners, copy_record, formal_components, not_one}
 use Rattle.ada_sound.proofs.AdjustingGoes.{in_a_row}
 use Rattle.ada_sound.proofs.Alters.{Alters, alters_set}
 use Rattle.ada_sound.proofs.BareObjects.{frugal_frees_bare}
 use Rattle.ada_sound.proofs.Blanked.{out_blanked}
 use Rattle.ada_sound.proofs.Stored.{AllOut}
-use Rattle.ada_sound.proofs.CalmTypes.{components_are_calm}
 use Rattle.ada_sound.proofs.Callers.{AreCalls, Suspension, Stands, known_in}
 use Rattle.ada_sound.proofs.CallsApart.{CallApart}
 use Rattle.ada_sound.proofs.ConfinedBodies.{confined_body, reaches_record}
@@ -69,15 +68,17 @@ use Rattle.ada_sound.proofs.OrderlyBodies.{lone_body, orderly_body}
 use Rattle.ada_sound.proofs.PartsApart.{PartWithin, alone_left}
 use Rattle.ada_sound.proofs.QuietOperations.{MayTrack}
 use Rattle.ada_sound.proofs.Returns.{same_types}
+use Rattle.ada_sound.proofs.ShunsAround.{shuns_around}
 use Rattle.ada_sound.proofs.SimpleBodies.{simple_thrifty, simple_with}
+use Rattle.ada_sound.proofs.Sparing.{Sparing, bare_apart, begins_sparing, is_around}
 use Rattle.ada_sound.proofs.Starts.{Obeys}
 use Rattle.ada_sound.proofs.Touching.{resting}
 use Rattle.ada_sound.proofs.TouchingBegins.{IsAlone, alone}
-use Rattle.ada_sound.proofs.Trackers.{calls_stand_apart, frugal_too, names_none_too, stands_apart}
+use Rattle.ada_sound.proofs.Trackers.{calls_stand_apart, frugal_too, stands_apart}
 use Rattle.ada_sound.proofs.TracksApart.{tracks_apart}
 use Rattle.ada_sound.proofs.Treatments.{BeginsAdjust}
 use Rattle.ada_sound.proofs.TypedAside.{typed_aside}
-use Rattle.ada_sound.proofs.WatchedBy.{given_count, hold_calm, some_variable, watched_by}
+use Rattle.ada_sound.proofs.WatchedBy.{given_count, some_variable, watched_by}
 use Rattle.ada_tracked.proofs.Heaps.{blanked_here}
 use Rattle.ada_tracked.specs.Frames.{View, blank_object, watched, blanked}
 use Rattle.ada_tracked.specs.Seen.{IsWatched, seen_state}
@@ -114,6 +115,7 @@ alters_aside owners heap e o x found = rw found (alters_set heap e o x (blank_ob
 -- The body of such an Adjust is next.
 module _
     (program : Program) (well : IsWellFormed (program_form program)) (obeys : Obeys program) (none_out : LetsNothingOut (program_form program)) (copies : copies_parts (program_form program) ≡ true)
+    (spares_adjusted : SparesAdjusted (program_form program)) (spares_own : SparesOwn program)
     (a : Activation Value) (rest : List (Activation Value)) (s : State) (gs : List Suspension) (v : Value) (k : Control) (IsOperated : Treatment → Id → ℕ → Type 0) (e : Event) (after : State)
     (c : BeginsAdjust (known_in program a.procedure gs) a rest s program.types.items (body_forms program) v k IsOperated e after)
     (tracks : MayTrack (program_form program) c.b) (filled : AreFilled (program_form program).types (cells_of s.heap) (cells_of s.heap)) (out : AllOut s.heap) (typing : typed.Typed (program_form program) after)
@@ -181,11 +183,11 @@ module _
     may : may_be_frugal p ≡ true
     may = frugal_too p tracks.0
 
-    simple_so : is_simple_body p.types (calmly_copied_types p) true c.b ≡ true
-    simple_so = simple_with p.types (adjusts_alone p) (calmly_copied_types p) c.b tracks.1
+    simple_so : is_simple_body p.types true c.b ≡ true
+    simple_so = simple_with p.types (adjusts_alone p) c.b tracks.1
 
     thrifty : is_thrifty_body (simple_allowance p.types) false c.b ≡ true
-    thrifty = simple_thrifty (calmly_copied_types p) (simple_allowance p.types) c.b simple_so
+    thrifty = simple_thrifty (simple_allowance p.types) c.b simple_so
 
     -- What the waiting activation sees, and the body.
     known_types : (known_in program a.procedure gs).program.types ≡ p.types
@@ -222,8 +224,8 @@ module _
         let body : operation.body ≡ c.b = let found = operation.there in let there = c.there in cc (found, there) in
         alone c.b operation.object (rw body at operation.formals)
 
-    none_other : hold_calm p.types (calmly_copied_types p) (drop 1 c.b.variables) ≡ true
-    none_other = lone_body p.types (calmly_copied_types p) c.b simple_so
+    none_other : list_all (λ y. holds_one_value y.kind) (drop 1 c.b.variables) ≡ true
+    none_other = lone_body p.types c.b simple_so
 
     -- Each variable has a value.
     count : length (places begun) ≡ length c.b.variables
@@ -244,25 +246,25 @@ module _
         let holds = formal_holds program c.number c.b o place begun (_, refl) aside found inside_body in
         formal_within p.types (variable_kind c.b.variables 0) o x.cell.access place lone.object lone.is (rw lone.is at holds)
 
-    -- The object has a part whose Adjust tracks: this one.
-    sees_to : are_calmly_copied_in p x.cell.access ≡ false
-    sees_to = copy_sees_to program well tracks.0 a rest s gs v k IsOperated e after c filled
+    -- The body follows no value of the object's type, and frees none.
+    shuns : body_shuns p.types (is_around x.cell.access) (bare_apart program) c.b ≡ true
+    shuns =
+        shuns_around program well spares_adjusted spares_own x.cell.access c.of c.part c.number (called_operable program well x.cell.access r c.of c.part c.tasks left)
+        (adjust_called c.by (operations_of program.types.items c.of) c.number c.copies c.called) c.b c.there true simple_so
 
-    -- The object is watched: it exists, and has such a part.
+    -- So it looks at the object by its formal parameter alone in the real state.
+    looks_elsewhere : Sparing program o x.cell.access behind s.masters real
+    looks_elsewhere = begins_sparing program c.number c.b c.there x.cell.access shuns o place behind (record s { activations = a ∷ rest; mode = Running })
+
+    -- The object is watched: it exists.
     exists : aside.stage ≡ Existing
     exists = (at.works.stored.sane o (blank_object (watched w) aside) (blanked_here w heap aside found)).there_exists c.to.there
 
     watches : IsWatched w (places begun) heap
     watches =
         let here = sym own_is in
-        let types : own.types ≡ p.types = same_types (Some c.number) p in
-        watched_by own (tables_in own (seen_fits p well (Some c.number))) (calmly_copied_types p) w own_components begun place aside inside refl refl
+        watched_by own (tables_in own (seen_fits p well (Some c.number))) w own_components begun place aside inside refl refl
         (subst (λ (q : ProgramForm). length (places begun) ≡ length q.variables) here count) found exists
-        (subst (λ (types : List TypeForm). has_calm_objects types (calmly_copied_types p) x.cell.access ≡ false) (sym types) sees_to)
-        (subst (λ (types : List TypeForm). hold_calm types (calmly_copied_types p) (drop 1 own.variables) ≡ true) (sym types) (subst (λ (q : ProgramForm). hold_calm p.types (calmly_copied_types p) (drop 1 q.variables) ≡ true) here none_other))
-        (subst
-        (λ (types : List TypeForm). (holder component access : ℕ) → access_of (kind_among (reached_components types holder) component) ≡ Some access → has_calm_objects types (calmly_copied_types p) access ≡ true)
-        (sym types) (components_are_calm p.types (calmly_copied_types p) (names_none_too p tracks.0)))
         (tracks_apart p.types (in_a_row p well tracks.0) c.number c.b)
 
     -- It frees no more than the adjustment may.
@@ -320,18 +322,18 @@ module _
         by : (alone_there : Bool) → adjusts_alone p ≡ alone_there → LeavesAlone w owners real
         by true is = inl (alone_left program well x.cell.access r c.of c.part c.tasks left (one_part is))
         by false is =
-            let forms = confined_body p well c.number c.b c.there w.tracks components (subst (λ (free : Bool). is_simple_body p.types (calmly_copied_types p) free c.b ≡ true) is tracks.1) in
+            let forms = confined_body p well c.number c.b c.there w.tracks components (subst (λ (free : Bool). is_simple_body p.types free c.b ≡ true) is tracks.1) in
             inr (reaches_record p.types components.object, beside_record, record { control = ((forms.declarations, forms.statements, forms.handlers), tt); operands = tt })
 
     -- So it begins.
     begins_so :
         is_tracker p c.number ≡ true → Stands program gs (record s { activations = a ∷ rest }) → IsCalm (behind_call k) → AreCalls gs
-        → CallApart p.types (is_tracker p) k → ((u : Value) → u ≢ Names o → NothingBegins u k) → AdjustsIn program o x.cell.access r c.tasks w begun
+        → CallApart p.types (is_tracker p) k → ((u : Value) → u ≢ Names o → NothingBegins u k) → AdjustsIn program o x.cell.access r c.tasks behind s.masters w begun
     begins_so tracker stands calm settled behind_apart untreated =
         let kept = keeps_tracking program c.number w.tracks in
         let waiting = resting a.procedure a.places (begins c.by c.done) o x.cell.access [] place behind s.masters kept at.works.rooms at.works.holds in
         adjusting_begins program c.number c.b c.there w lone components a rest gs s k o aside heap place refl within c.by c.done behind kept may_free r c.tasks at
-        frees_no_more frees_bare (out_blanked (hiding owners o) s.heap out) (of_copy c.by c.copies) refl tracker orderly none_other tracks.0 sees_to may thrifty simple
+        frees_no_more frees_bare (out_blanked (hiding owners o) s.heap out) (of_copy c.by c.copies) refl tracker orderly none_other tracks.0 shuns may thrifty simple
         (judged_lets_none program well none_out copies x.cell.access c.of c.part c.number c.b (called_operable program well x.cell.access r c.of c.part c.tasks left) c.there
         (adjust_called c.by (operations_of program.types.items c.of) c.number c.copies c.called) w.tracks components orderly)
         (calls_apart behind_apart)
@@ -359,11 +361,15 @@ module _
           found = c.to.found;
           named = copy_names_left program well tracks.0 a rest s gs v k IsOperated e after c filled;
           leaves_alone = subst (λ (view : View). LeavesAlone view owners real) (sym f.view_is) alone_or_beside;
+          sparing =
+              same_sparing program o x.cell.access behind s.masters f.adjusting.w.object f.adjusting.access f.adjusting.behind f.adjusting.lower
+              (ap (λ (view : View). view.object) f.view_is) f.access_is f.behind_is f.lower_is real looks_elsewhere;
         }
 
 -- The body begins.
 pub adjusting_starts :
     (program : Program) → IsWellFormed (program_form program) → Obeys program → LetsNothingOut (program_form program) → copies_parts (program_form program) ≡ true
+    → SparesAdjusted (program_form program) → SparesOwn program
     → (a : Activation Value) (rest : List (Activation Value)) (s : State) (gs : List Suspension) (v : Value) (k : Control) (IsOperated : Treatment → Id → ℕ → Type 0) (e : Event) (after : State)
     → (c : BeginsAdjust (known_in program a.procedure gs) a rest s program.types.items (body_forms program) v k IsOperated e after)
     → MayTrack (program_form program) c.b → is_tracker (program_form program) c.number ≡ true
@@ -371,6 +377,6 @@ pub adjusting_starts :
     → Stands program gs (record s { activations = a ∷ rest }) → IsCalm (behind_call k) → AreCalls gs
     → CallApart (program_form program).types (is_tracker (program_form program)) k → ((u : Value) → u ≢ Names c.to.o → NothingBegins u k)
     → AdjustingCopy program after
-adjusting_starts program well obeys none_out copies a rest s gs v k IsOperated e after c tracks tracker filled out typing stands calm settled behind_apart untreated =
+adjusting_starts program well obeys none_out copies spares_adjusted spares_own a rest s gs v k IsOperated e after c tracks tracker filled out typing stands calm settled behind_apart untreated =
     subst (AdjustingCopy program) (sym c.is)
-    (copy_so program well obeys none_out copies a rest s gs v k IsOperated e after c tracks filled out typing tracker stands calm settled behind_apart untreated)
+    (copy_so program well obeys none_out copies spares_adjusted spares_own a rest s gs v k IsOperated e after c tracks filled out typing tracker stands calm settled behind_apart untreated)

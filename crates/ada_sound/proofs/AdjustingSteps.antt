@@ -26,9 +26,11 @@ use Rattle.ada_scopes.proofs.Homes.{ItemsFit}
 use Rattle.ada_scopes.specs.Scopes.{CollectTwoTypes}
 use Rattle.ada_tracked.proofs.Law.{runs_as_variables}
 use Rattle.ada_tracked.proofs.Staying.{stay_simple}
-use Rattle.ada_tracked.specs.Frames.{blanked}
+use Rattle.ada_reaching.specs.Law.{AllGoOn}
+use Rattle.ada_tracked.specs.Frames.{View, blanked}
 use Rattle.ada_tracked.specs.Law.{InnermostHousesNone, IsSilent, Matches, Shown, both, alone}
 use Rattle.ada_tracked.specs.Law as matching
+use Rattle.ada_tracked.specs.Looking.{LooksElsewhere}
 use Rattle.ada_tracked.specs.Seen.{IsWatched, Seen}
 use Rattle.ada_tracked.specs.Staying.{AllStaySimple, StaysSimple}
 use Rattle.ada_typed.proofs.Control as typed
@@ -60,6 +62,7 @@ use Rattle.ada_sound.proofs.Returns.{same_types}
 use Rattle.ada_sound.proofs.Allowance.{simple_allowance}
 use Rattle.ada_sound.proofs.InsideRecords.{object_inside, record_inside}
 use Rattle.ada_sound.proofs.FrugalFrees.{bare_by, frees_bare, records_bare_by}
+use Rattle.ada_sound.proofs.Sparing.{Sparing}
 use Rattle.ada_sound.proofs.Standing.{AllStand, FinalizesBy, FinalizesIn, FreesAmong}
 use Rattle.ada_sound.proofs.Steps as inside
 use Rattle.ada_sound.proofs.Stored.{AllOut, IsUnder, none_departed}
@@ -73,6 +76,8 @@ pub record SameCopy (program : Program) (s after : State) (f : Adjusting program
   pub access : g.access ≡ f.access
   pub record_type : g.record_type ≡ f.record_type
   pub tasks : g.tasks ≡ f.tasks
+  pub behind : g.behind ≡ f.behind
+  pub lower : g.lower ≡ f.lower
 
 -- It does so behind a step; and what that does to objects.
 abbrev pub InAdjusting : (program : Program) (s : State) → Adjusting program s → Event → State → Type 0
@@ -90,6 +95,19 @@ pub record IsOrderly (program : Program) (s : State) : Type 0 where
   pub whole : AllOut s.heap
   pub two : AllPairs CollectTwoTypes (items_of s.masters)
   pub fit : ItemsFit (program_form program).types (items_of s.masters)
+
+-- The next step of the body looks at the object by the formal parameter alone, and so it is behind it.
+abbrev pub SparesOn : Program → View → (access : ℕ) → (behind : Control) → (lower : List Master) → State → Type 0
+SparesOn program w access behind lower s =
+    LooksElsewhere w s × AllGoOn (Sparing program w.object access behind lower) (next program.types.items (body_forms program) s)
+
+-- What goes on whatever comes next does so.
+each_spared : (P : State → Type 0) (n : Next) → AllGoOn P n → Each P n
+each_spared P (halts halt) goes = tt
+each_spared P (moves e after) goes = goes
+each_spared P (tells request e after) goes = goes
+each_spared P (asks request answered) goes = goes
+each_spared P (picks n taking) goes = goes
 
 -- A master of the body is left: it owns variables alone, and no object has its home there.
 module _ (program : Program) (s : State) (f : Adjusting program s) where
@@ -112,7 +130,7 @@ module _ (program : Program) (s : State) (f : Adjusting program s) where
 
 module _
     (program : Program) (well : IsWellFormed (program_form program)) (s : State) (orderly : IsOrderly program s) (f : Adjusting program s)
-    (judged : IsJudged program f.number f.w.tracks) (watched : IsWatched f.w (places s) s.heap)
+    (judged : IsJudged program f.number f.w.tracks) (watched : IsWatched f.w (places s) s.heap) (spares : SparesOn program f.w f.access f.behind f.lower s)
     (inner : is_return_first s.control ≡ false) where
   abbrev p : ProgramForm
   p = program_form program
@@ -237,7 +255,7 @@ module _
   real_on = each_runs_on tds bodies s (simple_crosses f.w.tracks.first s.mode s.control f.simple inner)
 
   shown : Shown tds bodies f.w f.t (next tds bodies s) (next tds bodies f.t)
-  shown = runs_as_variables tds bodies f.w s f.t f.seen watched (next_simple f.w s.control s.masters f.simple inner (houses_none program s f))
+  shown = runs_as_variables tds bodies f.w s f.t f.seen watched spares.0 (next_simple f.w s.control s.masters f.simple inner (houses_none program s f))
 
   simple_on : AllStaySimple f.w.tracks.first (next tds bodies s)
   simple_on = stay_simple tds bodies f.w.tracks.first s (within f.w.tracks.first s.control f.simple inner)
@@ -246,9 +264,13 @@ module _
   followed : IsFollowed (Names f.w.object) s.heap
   followed = record { id = f.w.object; object = watched.object; is = refl; found = watched.at_object; there = rw watched.existing refl }
 
+  -- The body looks at the object by its formal parameter alone.
+  abbrev Spared : State → Type 0
+  Spared = Sparing program f.w.object f.access f.behind f.lower
+
   -- The real run goes on in the same body, whose formal parameter stays; and the other one is typed still, and calls nothing that tracks.
   abbrev Runs : State → Type 0
-  Runs after = SameRun s after × SamePlaces s after
+  Runs after = SameRun s after × (SamePlaces s after × Spared after)
 
   abbrev Kept : State → Type 0
   Kept stands = typed.TypedIn known.program stands × CallApart p.types (is_tracker p) stands.control
@@ -282,8 +304,8 @@ module _
             object_so = f.object_so;
             place = f.place;
             based = f.based;
-            formal = same.1.first ∙ f.formal;
-            count = same.1.count ∙ f.count;
+            formal = same.1.0.first ∙ f.formal;
+            count = same.1.0.count ∙ f.count;
             x = y.0;
             found = y.1;
             access = f.access;
@@ -299,6 +321,7 @@ module _
             after = f.after;
             awaited = f.awaited;
             lower = f.lower;
+            sparing = same.1.1;
             kept = f.kept;
             rooms = f.rooms;
             holds = f.holds;
@@ -310,7 +333,6 @@ module _
             calm = f.calm;
             settled = f.settled;
             tracking = f.tracking;
-            sees_to = f.sees_to;
             may = f.may;
             silent = f.silent;
             bodies = subst (λ (all : List (Activation Value)). AreOf program all (waiting program s f ∷ f.suspensions)) (sym same.0.suspended) f.bodies;
@@ -322,7 +344,7 @@ module _
           alters = a;
           says = subst (λ (procedure : Option ℕ). Says (implicit_of p) (seen_in procedure p) e s.heap after) (sym runs) says;
         },
-        record { view = refl; object = refl; access = refl; record_type = refl; tasks = refl },
+        record { view = refl; object = refl; access = refl; record_type = refl; tasks = refl; behind = refl; lower = refl },
       )
 
   -- Both take a step.
@@ -363,14 +385,20 @@ module _
       both_on Quiet Quiet (answered granted) (answers granted) (matching.same refl) (seen granted) (same granted) (simple granted) (steps granted) (types granted) (runs granted))
   next_on (picks n taken) m none same simple fine goes typing = none
 
+  -- So the real run does.
+  runs_on : Each Runs (next tds bodies s)
+  runs_on =
+      each_both (SameRun s) (λ after. SamePlaces s after × Spared after) (next tds bodies s) real_on
+      (each_both (SamePlaces s) Spared (next tds bodies s) (each_next (SamePlaces s) (next tds bodies s) places_on) (each_spared Spared (next tds bodies s) spares.1))
+
   pub step_on : GoesAdjusting program s f (next tds bodies s)
   step_on =
-      next_on (next tds bodies s) (next tds bodies f.t) shown (each_both (SameRun s) (SamePlaces s) (next tds bodies s) real_on (each_next (SamePlaces s) (next tds bodies s) places_on)) simple_on fine_on frugal_on
+      next_on (next tds bodies s) (next tds bodies f.t) shown runs_on simple_on fine_on frugal_on
       (each_both (typed.TypedIn known.program) (λ stands. CallApart p.types (is_tracker p) stands.control) (next tds bodies f.t) typed_on (each_next (λ (stands : State). CallApart p.types (is_tracker p) stands.control) (next tds bodies f.t) apart_on))
 
 -- Each step of the body but its end keeps all that is known while it runs.
 pub adjusting_step :
     (program : Program) → IsWellFormed (program_form program) → (s : State) → IsOrderly program s → (f : Adjusting program s)
-    → IsJudged program f.number f.w.tracks → IsWatched f.w (places s) s.heap
+    → IsJudged program f.number f.w.tracks → IsWatched f.w (places s) s.heap → SparesOn program f.w f.access f.behind f.lower s
     → is_return_first s.control ≡ false → GoesAdjusting program s f (next program.types.items (body_forms program) s)
-adjusting_step program well s orderly f judged watched inner = step_on program well s orderly f judged watched inner
+adjusting_step program well s orderly f judged watched spares inner = step_on program well s orderly f judged watched spares inner

@@ -15,7 +15,7 @@ use Rattle.ada_program.specs.WellFormed.{finalization_in, finalization_of}
 use Rattle.ada_quiet.proofs.FrugalAt.{operation_at}
 use Rattle.ada_quiet.proofs.QuietFrugal.{frugal_body}
 use Rattle.ada_quiet.specs.Apart.{is_bare_item}
-use Rattle.ada_quiet.specs.Calm.{calmly_copied_types, is_known_calm}
+use Rattle.ada_quiet.specs.Calm.{is_known_calm}
 use Rattle.ada_quiet.specs.Frugal.{Thrift, assigns_at_hand, are_frugal_declarations, is_frugal_stmt, are_frugal, are_frugal_branches, are_frugal_handlers, is_frugal_body, is_frugal_operation, thrift_of}
 use Rattle.ada_quiet.specs.InUse.{adjusts_alone, adjusts_nothing, may_adjust_frugally, may_be_frugal, may_track, operations_may_be_called, uses_adjust, uses_called_adjust, uses_finalize, uses_initialize, uses_operations}
 use Rattle.ada_quiet.specs.Quiet.{has_access, operation_body, is_plain_body, is_plain_operation, is_quiet_body, is_quiet_operation}
@@ -112,8 +112,8 @@ module _ (p : ProgramForm) where
   simple_inside : (may_free : Bool) (o : Option ProcedureNo) → is_simple_operation p may_free o ≡ true → operation_assigns_inside p o ≡ true
   simple_inside may_free None is = refl
   simple_inside may_free (Some procedure) is =
-      body_of (λ b. is_simple_body p.types (calmly_copied_types p) may_free b ≡ true)
-      (λ b simple. body_inside (thrift_of p) b (simple_frugal (calmly_copied_types p) (thrift_of p) b (simple_with p.types may_free (calmly_copied_types p) b simple))) procedure
+      body_of (λ b. is_simple_body p.types may_free b ≡ true)
+      (λ b simple. body_inside (thrift_of p) b (simple_frugal (thrift_of p) b (simple_with p.types may_free b simple))) procedure
       (λ b at. rw at at is)
 
   frugal_inside : (o : Option ProcedureNo) → is_frugal_operation p o ≡ true → operation_assigns_inside p o ≡ true

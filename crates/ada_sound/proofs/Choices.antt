@@ -10,19 +10,19 @@ use Rattle.ada_deeds.specs.Within.{does_by}
 use Rattle.ada_deeds.specs.declared.deed.Callee.{Callee}
 use Rattle.ada_deeds.specs.declared.deed.Callee.TheVariants as callee
 use Rattle.ada_deeds.specs.declared.deed.Deed.{Deed}
-use Rattle.ada_deeds.specs.declared.deed.Deed.TheVariants.{Raises}
+use Rattle.ada_deeds.specs.declared.deed.Deed.TheVariants.{Raises, Follows}
 use Rattle.ada_deeds.specs.declared.deed.Operation.TheVariants.{Adjust, Finalize}
 use Rattle.ada_deeds.proofs.Within.{counts_are_enough}
 use Rattle.ada_operations.specs.Created.{collections_of, is_created_before}
 use Rattle.ada_operations.proofs.Propagating.{none_comes_out, kept_by}
-use Rattle.ada_operations.proofs.Spared.{reach_older, older_by}
+use Rattle.ada_operations.proofs.Spared.{adjust_aside, aside_by, reach_older, older_by}
 use Rattle.ada_program.specs.declared.program.Exception.{Exception}
 use Rattle.ada_program.specs.declared.program.TypeNo.{TypeNo}
 use Rattle.ada_text.specs.declared.spot.Spot.{Spot}
 use Rattle.ada_program.specs.declared.program.Program.{Program}
 use Rattle.ada_program.specs.Form.{StmtsForm, HandlersForm, declaration_forms, stmt_forms, handler_forms}
 use Rattle.ada_program.specs.ProgramForm.{BodyForm, ProgramForm, main_body, body_forms, program_form}
-use Rattle.ada_program.specs.WellFormed.{type_fits, variable_fits, creations, creates_from, collections_first, collection_fits, has_collections, is_access, pools_fit, initial_fits, stmts_fit, handlers_fit, bodies_fit, all_creations, callable_in, components_lie, have_operations, IsWellFormed}
+use Rattle.ada_program.specs.WellFormed.{type_fits, variable_fits, creations, creates_from, collections_first, collection_fits, designated_type, has_collections, is_access, pools_fit, initial_fits, stmts_fit, handlers_fit, bodies_fit, all_creations, callable_in, components_lie, have_operations, IsWellFormed}
 use Rattle.ada_program.specs.Nested.{collected, part_nests, statements_nest, handlers_nest, callees_of, CollectionsNest}
 use Rattle.ada_program.specs.Freed.{statements_free_own, handlers_free_own, body_frees_own, FreesItsOwn}
 use Rattle.ada_effects.specs.Effects.{Implicit, effects_of}
@@ -38,7 +38,7 @@ use Rattle.ada_meaning.specs.Run.{Event, Choice, settled, grants, takes, Leads, 
 use Rattle.ada_quiet.specs.Idle.{makes_parts, copies_parts}
 use Rattle.ada_quiet.specs.InUse.{operations_are_in_use}
 use Rattle.ada_quiet.specs.Releases.{text_frees_inside}
-use Rattle.ada_sound.specs.Always.{IsChecked, LetsNothingOut, reaches_holder, spare_own_types, SparesHolders, SparesNewer, SparesOwn, Breaks, IsIllFormed, IsIllNested, FreesOthers, NotInUse, UsesNewer, LetsSomeOut, UsesOwn, InSomeRun, is_seen, IsFineAtEnds, HaltsAfter, HaltsSomewhere}
+use Rattle.ada_sound.specs.Always.{IsChecked, LetsNothingOut, reaches_holder, spare_own_types, SparesAdjusted, SparesHolders, SparesNewer, SparesOwn, Breaks, IsIllFormed, IsIllNested, FreesOthers, NotInUse, UsesNewer, FollowsAdjusted, LetsSomeOut, UsesOwn, InSomeRun, is_seen, IsFineAtEnds, HaltsAfter, HaltsSomewhere}
 
 -- Events, and the state that they lead to.
 abbrev pub Came : Type 0
@@ -175,11 +175,11 @@ none_there [] none = refl
 none_there (spot ∷ spots) none = absurd (cc none)
 
 -- Whether what ends objects spares their own access types, and where a component of a record is freed those in whose objects such a component may lie; and
--- whether it spares those whose collections are created later.
+-- whether it spares those whose collections are created later, and what adjusts objects follows no values of their own access types.
 abbrev pub spares_types : ProgramForm → Bool
 spares_types p =
     spare_own_types (implicit_of p) 0 p.types
-    && (is_none (text_frees_inside (reaches_holder (implicit_of p) p.types) p) && reach_older p)
+    && (is_none (text_frees_inside (reaches_holder (implicit_of p) p.types) p) && (reach_older p && adjust_aside p))
 
 -- Whether no exception comes out where a record is finalized, if a Finalize may be called, nor where one is adjusted, if an Adjust may be.
 abbrev pub lets_none_out : ProgramForm → Bool
@@ -248,6 +248,19 @@ fine_is p e = fits_is p (and_parts (lets_none_out p) (fits p) (formed_is p e)).1
 spares_is : (p : ProgramForm) → is_fine p ≡ true → spares_types p ≡ true
 spares_is p e = (and_parts _ _ (and_parts _ _ e).1).0
 
+-- The last two parts of what is spared.
+later_is : (p : ProgramForm) → spares_types p ≡ true → (reach_older p && adjust_aside p) ≡ true
+later_is p e =
+    let none = is_none (text_frees_inside (reaches_holder (implicit_of p) p.types) p) in
+    let later = reach_older p && adjust_aside p in
+    (and_parts none later (and_parts (spare_own_types (implicit_of p) 0 p.types) (none && later) e).1).1
+
+older_is : (p : ProgramForm) → spares_types p ≡ true → reach_older p ≡ true
+older_is p e = (and_parts (reach_older p) (adjust_aside p) (later_is p e)).0
+
+aside_is : (p : ProgramForm) → spares_types p ≡ true → adjust_aside p ≡ true
+aside_is p e = (and_parts (reach_older p) (adjust_aside p) (later_is p e)).1
+
 lets_none_is : (p : ProgramForm) → is_fine p ≡ true → lets_none_out p ≡ true
 lets_none_is p e = (and_parts (lets_none_out p) (fits p) (formed_is p e)).0
 
@@ -311,13 +324,30 @@ module _ (program : Program) (bodies : List BodyForm) (fs : StmtsForm) (hs : Han
   spares_holders_in e = holders_in (and_parts _ _ (and_parts _ _ e).1).0
 
   -- And whether it spares those whose collections are created later than that of its own.
+  newer_in : reach_older (form_with program bodies fs hs) ≡ true → SparesNewer program
+  newer_in e = subst ReachesOlder (sym form_is) (older_by (form_with program bodies fs hs) e)
+
   spares_newer_in : spares_types (form_with program bodies fs hs) ≡ true → SparesNewer program
-  spares_newer_in e = subst ReachesOlder (sym form_is) (older_by (form_with program bodies fs hs) (and_parts _ _ (and_parts _ _ e).1).1)
+  spares_newer_in e = newer_in (older_is (form_with program bodies fs hs) e)
+
+  -- And whether what adjusts an object follows no value of its own access type.
+  aside_in : adjust_aside (form_with program bodies fs hs) ≡ true → SparesAdjusted (program_form program)
+  aside_in e = subst SparesAdjusted (sym form_is) (aside_by (form_with program bodies fs hs) e)
+
+  spares_adjusted_in : spares_types (form_with program bodies fs hs) ≡ true → SparesAdjusted (program_form program)
+  spares_adjusted_in e = aside_in (aside_is (form_with program bodies fs hs) e)
 
   -- It does not spare such a one.
   reaches_newer_in : (t u : ℕ) → is_access (form_with program bodies fs hs).types t ≡ true → (implicit_with program bodies fs hs).end_reaches t u ≡ true
       → is_created_before (collections_of (form_with program bodies fs hs)) u t ≡ false → SparesNewer program → ⊥
   reaches_newer_in t u access reached late spares = cc (late, subst ReachesOlder form_is spares t u access reached)
+
+  -- An object of an access type is adjusted, and a value of that type followed.
+  follows_aside_in : (access : ℕ) (whole : TypeNo) → designated_type (form_with program bodies fs hs).types access ≡ Some whole.0
+      → does_by (form_with program bodies fs hs) (Follows (record { 0 = access })) (callee.Parts Adjust whole) ≡ true → SparesAdjusted (program_form program) → ⊥
+  follows_aside_in access whole designated follows spares =
+      let d : Deed = Follows (record { 0 = access }) in
+      subst SparesAdjusted form_is spares access whole designated ((counts_are_enough (form_with program bodies fs hs) d (callee.Parts Adjust whole)).0 follows)
 
   -- And whether no exception comes out of what may be called of its Finalize and Adjust.
   lets_none_in : lets_none_out (form_with program bodies fs hs) ≡ true → LetsNothingOut (program_form program)
@@ -345,6 +375,7 @@ module _ (program : Program) (bodies : List BodyForm) (fs : StmtsForm) (hs : Han
         frees_own = own_in both.1;
         spares_own = spares_in (spares_is (form_with program bodies fs hs) fine);
         spares_newer = spares_newer_in (spares_is (form_with program bodies fs hs) fine);
+        spares_adjusted = spares_adjusted_in (spares_is (form_with program bodies fs hs) fine);
         lets_nothing_out = lets_none_in (lets_none_is (form_with program bodies fs hs) fine);
         spares_holders = spares_holders_in (spares_is (form_with program bodies fs hs) fine);
         obeys = (normal, raising, flow_in (goes normal raising) e);
@@ -361,6 +392,7 @@ module _ (program : Program) (bodies : List BodyForm) (fs : StmtsForm) (hs : Han
         frees_own = own_in both.1;
         spares_own = spares_in (spares_is (form_with program bodies fs hs) fine);
         spares_newer = spares_newer_in (spares_is (form_with program bodies fs hs) fine);
+        spares_adjusted = spares_adjusted_in (spares_is (form_with program bodies fs hs) fine);
         lets_nothing_out = lets_none_in (lets_none_is (form_with program bodies fs hs) fine);
         spares_holders = spares_holders_in (spares_is (form_with program bodies fs hs) fine);
         spot = spot;
@@ -380,6 +412,7 @@ module _ (program : Program) (bodies : List BodyForm) (fs : StmtsForm) (hs : Han
         frees_own = own_in both.1;
         spares_own = spares_in spares;
         spares_newer = spares_newer_in spares;
+        spares_adjusted = spares_adjusted_in spares;
         lets_nothing_out = lets_none_in none;
         spares_holders = spares_holders_in spares;
         obeys = (normal, raising, flow_in (goes normal raising) e);
@@ -390,9 +423,10 @@ module _ (program : Program) (bodies : List BodyForm) (fs : StmtsForm) (hs : Han
       → (normal raising : Option Holds) → fits (form_with program bodies fs hs) ≡ true → operations_are_in_use (form_with program bodies fs hs) ≡ true
       → spare_own_types (implicit_of (form_with program bodies fs hs)) 0 (form_with program bodies fs hs).types ≡ true
       → is_none (text_frees_inside (reaches_holder (implicit_of (form_with program bodies fs hs)) (form_with program bodies fs hs).types) (form_with program bodies fs hs)) ≡ true
+      → adjust_aside (form_with program bodies fs hs) ≡ true
       → lets_none_out (form_with program bodies fs hs) ≡ true → is_kept (form_with program bodies fs hs) ≡ true
       → flow_with program bodies fs hs ≡ goes normal raising → UsesNewer program
-  uses_newer_in t u access reached late normal raising formed used spares none_inside out kept e =
+  uses_newer_in t u access reached late normal raising formed used spares none_inside aside out kept e =
       let both = and_parts _ _ kept in
       record {
         well_formed = subst IsWellFormed (sym form_is) (fits_is (form_with program bodies fs hs) formed);
@@ -401,6 +435,30 @@ module _ (program : Program) (bodies : List BodyForm) (fs : StmtsForm) (hs : Han
         frees_own = own_in both.1;
         spares_own = spares_with true spares;
         uses_newer = reaches_newer_in t u access reached late;
+        spares_adjusted = aside_in aside;
+        lets_nothing_out = lets_none_in out;
+        spares_holders = holders_in none_inside;
+        obeys = (normal, raising, flow_in (goes normal raising) e);
+      }
+
+  pub follows_adjusted_in : (access : ℕ) (whole : TypeNo) → designated_type (form_with program bodies fs hs).types access ≡ Some whole.0
+      → does_by (form_with program bodies fs hs) (Follows (record { 0 = access })) (callee.Parts Adjust whole) ≡ true
+      → (normal raising : Option Holds) → fits (form_with program bodies fs hs) ≡ true → operations_are_in_use (form_with program bodies fs hs) ≡ true
+      → spare_own_types (implicit_of (form_with program bodies fs hs)) 0 (form_with program bodies fs hs).types ≡ true
+      → is_none (text_frees_inside (reaches_holder (implicit_of (form_with program bodies fs hs)) (form_with program bodies fs hs).types) (form_with program bodies fs hs)) ≡ true
+      → reach_older (form_with program bodies fs hs) ≡ true
+      → lets_none_out (form_with program bodies fs hs) ≡ true → is_kept (form_with program bodies fs hs) ≡ true
+      → flow_with program bodies fs hs ≡ goes normal raising → FollowsAdjusted program
+  follows_adjusted_in access whole designated follows normal raising formed used spares none_inside older out kept e =
+      let both = and_parts _ _ kept in
+      record {
+        well_formed = subst IsWellFormed (sym form_is) (fits_is (form_with program bodies fs hs) formed);
+        in_use = subst (λ (p : ProgramForm). operations_are_in_use p ≡ true) (sym form_is) used;
+        nests = nested_in both.0;
+        frees_own = own_in both.1;
+        spares_own = spares_with true spares;
+        spares_newer = newer_in older;
+        follows_adjusted = follows_aside_in access whole designated follows;
         lets_nothing_out = lets_none_in out;
         spares_holders = holders_in none_inside;
         obeys = (normal, raising, flow_in (goes normal raising) e);
@@ -421,6 +479,7 @@ module _ (program : Program) (bodies : List BodyForm) (fs : StmtsForm) (hs : Han
         frees_own = own_in both.1;
         spares_own = spares_in spares;
         spares_newer = spares_newer_in spares;
+        spares_adjusted = spares_adjusted_in spares;
         lets_some_out = λ (none : LetsNothingOut (program_form program)).
             none.finalizes (subst (λ (p : ProgramForm). makes_parts p ≡ true) (sym form_is) made) e record_type raised;
         spares_holders = spares_holders_in spares;
@@ -510,6 +569,7 @@ module _ (program : Program) (fs : StmtsForm) (hs : HandlersForm) (is : stmt_for
     frees_own = own_in program (body_forms program) fs hs refl is has (and_parts _ _ kept).1;
     spares_own = spares_in program (body_forms program) fs hs refl is has spares;
     spares_newer = spares_newer_in program (body_forms program) fs hs refl is has spares;
+    spares_adjusted = spares_adjusted_in program (body_forms program) fs hs refl is has spares;
     lets_nothing_out = lets_none_in program (body_forms program) fs hs refl is has none;
     spares_holders = spares_holders_in program (body_forms program) fs hs refl is has spares;
     obeys = (normal, raising, flow_in program (body_forms program) fs hs refl is has (goes normal raising) e);
@@ -524,6 +584,7 @@ module _ (program : Program) (fs : StmtsForm) (hs : HandlersForm) (is : stmt_for
     frees_own = own_in program (body_forms program) fs hs refl is has own;
     spares_own = spares_in program (body_forms program) fs hs refl is has (spares_is whole fine);
     spares_newer = spares_newer_in program (body_forms program) fs hs refl is has (spares_is whole fine);
+    spares_adjusted = spares_adjusted_in program (body_forms program) fs hs refl is has (spares_is whole fine);
     lets_nothing_out = lets_none_in program (body_forms program) fs hs refl is has (lets_none_is whole fine);
     spares_holders = spares_holders_in program (body_forms program) fs hs refl is has (spares_is whole fine);
     obeys = (normal, raising, flow_in program (body_forms program) fs hs refl is has (goes normal raising) e);
@@ -540,6 +601,7 @@ module _ (program : Program) (fs : StmtsForm) (hs : HandlersForm) (is : stmt_for
         cc (other, own);
     spares_own = spares_in program (body_forms program) fs hs refl is has (spares_is whole fine);
     spares_newer = spares_newer_in program (body_forms program) fs hs refl is has (spares_is whole fine);
+    spares_adjusted = spares_adjusted_in program (body_forms program) fs hs refl is has (spares_is whole fine);
     lets_nothing_out = lets_none_in program (body_forms program) fs hs refl is has (lets_none_is whole fine);
     spares_holders = spares_holders_in program (body_forms program) fs hs refl is has (spares_is whole fine);
     obeys = (normal, raising, flow_in program (body_forms program) fs hs refl is has (goes normal raising) e);

@@ -20,7 +20,6 @@ use Rattle.ada_tracked.specs.Simple.{IsFrom}
 use Rattle.ada_beside.specs.Confined.{IsConfinedFrom, PathIsConfined, ExpressionIsConfined, LinksAreConfined, ConditionIsConfined, ItemIsConfined, ItemsAreConfined, RightIsConfined, DeclarationIsConfined, DeclarationsAreConfined, StatementIsConfined, StatementsAreConfined, BranchesAreConfined, HandlersAreConfined}
 use Rattle.ada_quiet.specs.Bare.{has_bare_objects}
 use Rattle.ada_quiet.specs.InUse.{count_found}
-use Rattle.ada_quiet.specs.Calm.{calmly_copied_types}
 use Rattle.ada_quiet.specs.Simple.{is_plain_item, is_simple_right, is_simple_declaration, are_simple_declarations, is_simple_stmt, are_simple, are_simple_branches, are_simple_handlers, is_simple_body}
 use Rattle.ada_typed.proofs.Bodies.{SeenFits, seen_fits, seen_as}
 use Rattle.ada_typed.proofs.Operators.{typed, unary_operand, binary_operand, chain_left}
@@ -247,7 +246,7 @@ pub record FormsAreConfined (types : List TypeForm) (tracks : Tracks) (object : 
 -- In a well-formed program those of a simple body that frees nothing are so, if it tracks components of its formal parameter.
 pub confined_body :
     (p : ProgramForm) → IsWellFormed p → (number : ℕ) (b : BodyForm) → slice_get p.bodies number ≡ Some b → (tracks : Tracks)
-    → (tracking : TracksComponents p.types tracks b.variables) → is_simple_body p.types (calmly_copied_types p) false b ≡ true → FormsAreConfined p.types tracks tracking.object b
+    → (tracking : TracksComponents p.types tracks b.variables) → is_simple_body p.types false b ≡ true → FormsAreConfined p.types tracks tracking.object b
 confined_body p well number b there tracks tracking is =
     let own = seen_by number b p in
     let fit : SeenFits own = subst SeenFits (seen_as p number b there) (seen_fits p well (Some number)) in

@@ -20,7 +20,6 @@ use Rattle.ada_program.specs.WellFormed.{is_access, is_this, finalization_of, ki
 use Rattle.ada_program.specs.Freed.{statement_frees_own, statements_free_own}
 use Rattle.ada_quiet.specs.Bare.{has_bare_objects, is_bare_access}
 use Rattle.ada_quiet.specs.Idle.{has_parts as record_has_parts, holds_parts}
-use Rattle.ada_quiet.specs.Calm.{has_calm_objects, is_calm_access, is_known_calm}
 use Rattle.ada_finalized.specs.Law.{NamesExisting, NoOperationRunsOn}
 use Rattle.ada_parts.specs.declared.tasks.Direction.{Direction}
 use Rattle.ada_parts.specs.declared.tasks.Direction.TheVariants.{WholeFirst, PartsFirst}
@@ -403,20 +402,6 @@ abbrev pub IsNewly : Allowance → List TypeDefinition → (access : ℕ) → Li
 IsNewly frugal tds access heap k =
     (all_tasks tds access PartsFirst ≡ [])
     ⊎ ((frugal.objects ≡ true) × NoOperationRunsOn (Names (next_id heap)) k)
-
--- What has no controlled parts is calm, whatever is asked about operations.
-pub bare_calm : (types : List TypeForm) (calm : List Bool) (access : ℕ) → has_bare_objects types access ≡ true → has_calm_objects types calm access ≡ true
-bare_calm types calm access is = by (slice_get types access) is
-  where
-    parts : (o : Option Finalization) → not (is_some o) ≡ true → is_known_calm calm o ≡ true
-    parts None none = refl
-    parts (Some f) none = absurd (cc none)
-
-    by : (o : Option TypeForm) → is_bare_access types o ≡ true → is_calm_access types calm o ≡ true
-    by None is' = absurd (cc is')
-    by (Some (record_of name components known finalization)) is' = absurd (cc is')
-    by (Some (access_to name designated pool)) is' = parts (finalization_of types designated) is'
-    by (Some (object_of record_type)) is' = absurd (cc is')
 
 -- An object that has not been created does not exist.
 pub past_unborn : (heap : List Object) → NamesExisting heap (Names (next_id heap)) → ⊥

@@ -24,6 +24,7 @@ grounds program s sound = record {
   in_use = sound.in_use;
   frees_own = sound.frees_own;
   spares_own = sound.spares_own;
+  spares_adjusted = sound.spares_adjusted;
   lets_nothing_out = sound.lets_nothing_out;
   obeys = sound.obeys;
   idle = sound.idle;

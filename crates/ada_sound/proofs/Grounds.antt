@@ -37,7 +37,7 @@ use Rattle.ada_scopes.proofs.Runs.{Scoped}
 use Rattle.ada_typed.proofs.Control as typed
 use Rattle.ada_typed.proofs.Kept.{behind_call}
 use Rattle.ada_sound.specs.Agreement.{running_procedure}
-use Rattle.ada_sound.specs.Always.{LetsNothingOut, SparesOwn, reaches_holder}
+use Rattle.ada_sound.specs.Always.{LetsNothingOut, SparesAdjusted, SparesOwn, reaches_holder}
 use Rattle.ada_sound.proofs.Callers.{AreCalls, Suspension, known_in, Stands}
 use Rattle.ada_sound.proofs.CallsApart.{CallApart}
 use Rattle.ada_sound.proofs.FreesInside.{FreesNoneInside}
@@ -96,6 +96,7 @@ pub record Grounds (program : Program) (s : State) : Type 0 where
   pub in_use : operations_are_in_use (program_form program) ≡ true
   pub frees_own : FreesItsOwn (program_form program)
   pub spares_own : SparesOwn program
+  pub spares_adjusted : SparesAdjusted (program_form program)
   pub lets_nothing_out : LetsNothingOut (program_form program)
   pub obeys : Obeys program
   -- what is left to do, and values

@@ -250,8 +250,18 @@ pub mod JudgedTyped
 pub mod JudgedRuns
 -- no two of the components that an Adjust tracks are one
 pub mod TracksApart
--- nothing but the formal parameter leads to the object whose components it tracks
+-- the object exists whose components it tracks, and its formal parameter refers to the record there
 pub mod WatchedBy
+-- what its paths find, where they follow no value of the object's access type
+pub mod SparingPaths
+-- where it looks then
+pub mod SparingLooks
+-- what is sought next
+pub mod SparingSteps
+-- it looks at that object by its formal parameter alone
+pub mod Sparing
+-- its body follows and frees no value of the object's access type
+pub mod ShunsAround
 -- its formal parameter stays
 pub mod FormalStays
 -- heaps in which the components that it tracks hold null
@@ -457,6 +467,8 @@ pub mod ExamplePairing
 pub mod ExampleCopying
 -- one whose Finalize frees what lies in a newer collection
 pub mod ExampleNewer
+-- one whose Adjust follows a value that names the object which is adjusted
+pub mod ExampleCrossing
 -- where flow is not agreed with
 pub mod ExampleInside
 -- where a statement begins

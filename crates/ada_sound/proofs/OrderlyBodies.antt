@@ -19,15 +19,13 @@ use Rattle.ada_judged.specs.Fitting.{TracksComponents}
 use Rattle.ada_judged.specs.Obeying.{PathIsOrderly, ExpressionIsOrderly, LinksAreOrderly, ConditionIsOrderly, ItemIsOrderly, ItemsAreOrderly, RightIsOrderly, DeclarationIsOrderly, DeclarationsAreOrderly, StatementIsOrderly, StatementsAreOrderly, BranchesAreOrderly, HandlersAreOrderly, BodyIsOrderly}
 use Rattle.ada_judged.proofs.FittingRecords.{statements_record}
 use Rattle.ada_quiet.specs.Bare.{has_bare_objects}
-use Rattle.ada_quiet.specs.Calm.{calmly_copied_types}
-use Rattle.ada_quiet.specs.Simple.{leads_elsewhere, is_plain_item, is_simple_right, is_simple_declaration, are_simple_declarations, is_simple_stmt, are_simple, are_simple_branches, are_simple_handlers, is_simple_body}
+use Rattle.ada_quiet.specs.Simple.{holds_one_value, leads_elsewhere, is_plain_item, is_simple_right, is_simple_declaration, are_simple_declarations, is_simple_stmt, are_simple, are_simple_branches, are_simple_handlers, is_simple_body}
 use Rattle.ada_typed.proofs.Bodies.{SeenFits, seen_fits, seen_as}
 use Rattle.ada_typed.proofs.Operators.{typed, unary_operand, binary_operand, chain_left}
 use Rattle.ada_sound.proofs.Copied.{record_there}
 use Rattle.ada_sound.proofs.OperationStarts.{apart}
 use Rattle.ada_sound.proofs.Roots.{none_behind}
 use Rattle.ada_sound.proofs.SimpleBodies.{simple_parts}
-use Rattle.ada_sound.proofs.WatchedBy.{hold_calm}
 
 -- What is held is there, and no record (3.3.1).
 abbrev pub is_value : Option VariableKind → Bool
@@ -316,17 +314,17 @@ module _ (types : List TypeForm) (tracks : Tracks) (own : List VariableForm) (tr
 -- In a well-formed program a simple body is orderly, if it tracks components of its formal parameter.
 pub orderly_body :
     (p : ProgramForm) → IsWellFormed p → (number : ℕ) (b : BodyForm) → slice_get p.bodies number ≡ Some b → (tracks : Tracks) → TracksComponents p.types tracks b.variables
-    → is_simple_body p.types (calmly_copied_types p) true b ≡ true → BodyIsOrderly tracks b
+    → is_simple_body p.types true b ≡ true → BodyIsOrderly tracks b
 orderly_body p well number b there tracks tracking is =
     let own = seen_by number b p in
     let fit : SeenFits own = subst SeenFits (seen_as p number b there) (seen_fits p well (Some number)) in
-    let parts = simple_parts p.types (calmly_copied_types p) b is in
+    let parts = simple_parts p.types b is in
     record {
       declarations = initials_orderly p.types tracks b.variables tracking b.declarations fit.initials_fit parts.declarations;
       statements = statements_orderly p.types tracks b.variables tracking p.texts p.exceptions (callable_in own) false b.statements fit.statements_fit parts.statements;
       handlers = handlers_orderly p.types tracks b.variables tracking p.texts p.exceptions (callable_in own) false b.handlers fit.handlers_fit parts.handlers;
     }
 
--- Each variable of it but the formal parameter holds an Integer, a Boolean, or values of an access type whose objects are calm.
-pub lone_body : (types : List TypeForm) (calm : List Bool) (b : BodyForm) → is_simple_body types calm true b ≡ true → hold_calm types calm (drop 1 b.variables) ≡ true
-lone_body types calm b is = (simple_parts types calm b is).variables
+-- Each variable of it but the formal parameter holds an Integer, a Boolean, or an access value.
+pub lone_body : (types : List TypeForm) (b : BodyForm) → is_simple_body types true b ≡ true → list_all (λ y. holds_one_value y.kind) (drop 1 b.variables) ≡ true
+lone_body types b is = (simple_parts types b is).variables

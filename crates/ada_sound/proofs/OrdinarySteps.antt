@@ -311,7 +311,7 @@ module _ (program : Program) (a : Activation Value) (rest : List (Activation Val
         let copies = copied_by c.by c.done c.operated.0 c.copies in
         let tracks = adjust_tracks program grounds.well copies in_use_here a rest s o.suspensions v k IsOperated e after c in
         let untreated = grounds.untreated_start calm_here v c.by c.done tasks k (ap (λ (by : Treatment). Treats v by tasks ∷ k) (sym c.operated.0)) in
-        let adjusting = adjusting_starts program grounds.well grounds.obeys grounds.lets_nothing_out copies a rest s o.suspensions v k IsOperated e after c tracks.0 tracks.1
+        let adjusting = adjusting_starts program grounds.well grounds.obeys grounds.lets_nothing_out copies grounds.spares_adjusted grounds.spares_own a rest s o.suspensions v k IsOperated e after c tracks.0 tracks.1
         (filled_in_program (program_form program) a.procedure whole grounds.typed.inside) out
         (step_typed program grounds.well whole after settled e grounds.typed (rw is (refl, refl)))
         (restand Running (Treats v treatment tasks) o.suspensions o.stands) o.calm o.settled (grounds.apart (stands_apart (program_form program) tracks.0.0)).1 (λ u ne. nothing_begins u k untreated) in

@@ -27,7 +27,6 @@ use Rattle.ada_quiet.specs.Quiet.{is_quiet_stmt, are_quiet, are_quiet_branches, 
 use Rattle.ada_quiet.specs.Frugal.{is_frugal_body, frugal_operations, thrift_of, is_frugal_operation}
 use Rattle.ada_quiet.specs.InUse.{may_adjust_frugally, tracks_nothing, may_be_frugal, uses_initialize, uses_finalize, uses_operations, operations_may_be_called, adjusts_alone, adjusts_nothing, may_track, uses_adjust, uses_called_adjust}
 use Rattle.ada_quiet.specs.Idle.{copies_parts}
-use Rattle.ada_quiet.specs.Calm.{calmly_copied_types}
 use Rattle.ada_quiet.specs.Simple.{is_simple_body, is_simple_procedure, is_simple_operation}
 use Rattle.ada_quiet.proofs.InUse.{plain_procedure, plain_operation}
 use Rattle.ada_sound.proofs.Exits.{no_exits, no_exit_handlers}
@@ -141,7 +140,7 @@ module _ (p : ProgramForm) where
   IsFrugal number = (may_be_frugal p ≡ true) × (slice_index_or (frugal_operations p) number false ≡ true)
 
   abbrev pub IsSimple : ℕ → Type 0
-  IsSimple number = (may_track p ≡ true) × (is_simple_procedure p.types (calmly_copied_types p) (adjusts_alone p) (slice_get p.bodies number) ≡ true)
+  IsSimple number = (may_track p ≡ true) × (is_simple_procedure p.types (adjusts_alone p) (slice_get p.bodies number) ≡ true)
 
   -- A procedure is frugal, and nothing tracks in the program.
   abbrev pub IsFreelyFrugal : ℕ → Type 0
@@ -187,7 +186,7 @@ module _ (p : ProgramForm) where
 
   simple_one :
       (o : Option ProcedureNo) (number : ℕ) → is_simple_operation p (adjusts_alone p) o ≡ true → procedure_number o ≡ Some number
-      → is_simple_procedure p.types (calmly_copied_types p) (adjusts_alone p) (slice_get p.bodies number) ≡ true
+      → is_simple_procedure p.types (adjusts_alone p) (slice_get p.bodies number) ≡ true
   simple_one None number simple is = absurd (cc is)
   simple_one (Some procedure) number simple is = let same : procedure.0 ≡ number = cc is in rw same at simple
 
@@ -344,8 +343,8 @@ module _ (p : ProgramForm) where
       by (inr (inl freely)) = operation_nests p well procedure.0 freely.1.1
       by (inr (inr both)) =
           let b = there_one t (Some procedure) procedure.0 right refl in
-          let simple = simple_with p.types (adjusts_alone p) (calmly_copied_types p) b.0 (rw (b.1) at both.0.1) in
-          λ around all. nests_there procedure.0 b.0 b.1 (λ callees around'. simple_nests p.types (calmly_copied_types p) callees b.0 around' simple) around
+          let simple = simple_with p.types (adjusts_alone p) b.0 (rw (b.1) at both.0.1) in
+          λ around all. nests_there procedure.0 b.0 b.1 (λ callees around'. simple_nests p.types callees b.0 around' simple) around
 
       either : ((adjusts_nothing p && is_frugal_operation p (Some procedure)) ≡ true) ⊎ (uses_called_adjust p owns (Some procedure) ≡ true) → Nests (Some procedure)
       either (inl nothing) = operation_nests p well procedure.0 (apart (adjusts_nothing p) (is_frugal_operation p (Some procedure)) nothing).1
@@ -392,7 +391,7 @@ AdjustsCopy (ends cause) = ⊥
 
 -- An Adjust may track components of its formal parameter: it is simple, and frees nothing where a record has two controlled parts.
 abbrev pub MayTrack : ProgramForm → BodyForm → Type 0
-MayTrack p b = (may_track p ≡ true) × (is_simple_body p.types (calmly_copied_types p) (adjusts_alone p) b ≡ true)
+MayTrack p b = (may_track p ≡ true) × (is_simple_body p.types (adjusts_alone p) b ≡ true)
 
 -- A type of this number, among the controlled ones, declares a component of an access type directly, and the procedure overrides its Adjust (3.10, 7.6).
 pub record AdjustsOwn (types : List TypeForm) (of number : ℕ) : Type 0 where

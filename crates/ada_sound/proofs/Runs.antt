@@ -291,6 +291,7 @@ sound_step program s choice e after r step = record {
   frees_own = r.frees_own;
   spares_own = r.spares_own;
   spares_newer = r.spares_newer;
+  spares_adjusted = r.spares_adjusted;
   lets_nothing_out = r.lets_nothing_out;
   spares_holders = r.spares_holders;
   obeys = r.obeys;

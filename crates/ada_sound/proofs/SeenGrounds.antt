@@ -319,6 +319,7 @@ module _ (program : Program) {types : List ℕ} {item : ℕ} {ghosts : Id → Bo
         in_use = grounds.in_use;
         frees_own = grounds.frees_own;
         spares_own = grounds.spares_own;
+        spares_adjusted = grounds.spares_adjusted;
         lets_nothing_out = grounds.lets_nothing_out;
         obeys = grounds.obeys;
         idle = λ none. record {

@@ -35,7 +35,7 @@ use Rattle.ada_typed.proofs.Bodies.{SeenFits}
 -- Frugal bodies are of the shape of bodies that shun types.
 
 -- Where no type is shunned, each value may be followed,
-all_may : (kind : Option VariableKind) → may_follow (λ t. false) kind ≡ true
+pub all_may : (kind : Option VariableKind) → may_follow (λ t. false) kind ≡ true
 all_may None = refl
 all_may (Some variable.Integer) = refl
 all_may (Some variable.Boolean) = refl
@@ -50,14 +50,14 @@ selectors_shaped types kind (c ∷ cs) =
     and_from (may_follow (λ t. false) kind) (selectors_shun types (λ t. false) behind cs) (all_may kind) (selectors_shaped types behind cs)
 
 -- What holds of each element holds of all.
-all_so : {A : Type 0} (test : A → Bool) → ((x : A) → test x ≡ true) → (xs : List A) → list_all test xs ≡ true
+pub all_so : {A : Type 0} (test : A → Bool) → ((x : A) → test x ≡ true) → (xs : List A) → list_all test xs ≡ true
 all_so test so [] = refl
 all_so test so (x ∷ xs) = and_from (test x) (list_all test xs) (so x) (all_so test so xs)
 
 -- Whatever a body evaluates has the shape.
 module _ (types : List TypeForm) (apart : Apart) (variables : List VariableForm) where
   -- So has a path (4.1),
-  path_shaped : (path : PathForm) → path_shuns types (λ t. false) apart variables path ≡ true
+  pub path_shaped : (path : PathForm) → path_shuns types (λ t. false) apart variables path ≡ true
   path_shaped path = selectors_shaped types (variable_kind variables path.root) path.selectors
 
   -- and the way to a record,
@@ -68,7 +68,7 @@ module _ (types : List TypeForm) (apart : Apart) (variables : List VariableForm)
 
   mutual
     -- an expression (4.4)
-    expression_shaped : (e : ExpressionForm) → expression_shuns types (λ t. false) apart variables e ≡ true
+    pub expression_shaped : (e : ExpressionForm) → expression_shuns types (λ t. false) apart variables e ≡ true
     expression_shaped (integer i) = refl
     expression_shaped (boolean b) = refl
     expression_shaped (reads path) = path_shaped path
@@ -86,12 +86,12 @@ module _ (types : List TypeForm) (apart : Apart) (variables : List VariableForm)
         (links_shaped links)
 
   -- a condition, where there is one,
-  condition_shaped : (condition : Option ExpressionForm) → condition_shuns types (λ t. false) apart variables condition ≡ true
+  pub condition_shaped : (condition : Option ExpressionForm) → condition_shuns types (λ t. false) apart variables condition ≡ true
   condition_shaped None = refl
   condition_shaped (Some e) = expression_shaped e
 
   -- an item (4.3.1)
-  item_shaped : (i : ItemForm) → item_shuns types (λ t. false) apart variables i ≡ true
+  pub item_shaped : (i : ItemForm) → item_shuns types (λ t. false) apart variables i ≡ true
   item_shaped null_item = refl
   item_shaped (item_of_path path) = path_shaped path
   item_shaped (item_of_value e) = expression_shaped e

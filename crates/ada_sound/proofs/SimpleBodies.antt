@@ -8,7 +8,7 @@ use Rattle.ada_program.specs.Nested.{Callees, body_nests}
 use Rattle.ada_program.specs.ProgramForm.{TypeForm, BodyForm}
 use Rattle.ada_quiet.specs.Bare.{has_bare_objects}
 use Rattle.ada_quiet.specs.Frugal.{Thrift, allocates_frugally, are_frugal_declarations, is_frugal_stmt, are_frugal, are_frugal_branches, are_frugal_handlers, is_frugal_body}
-use Rattle.ada_quiet.specs.Simple.{is_plain_item, is_simple_right, are_simple_declarations, is_simple_stmt, are_simple, are_simple_branches, are_simple_handlers, is_simple_body, is_calm_kind}
+use Rattle.ada_quiet.specs.Simple.{is_plain_item, is_simple_right, are_simple_declarations, is_simple_stmt, are_simple, are_simple_branches, are_simple_handlers, is_simple_body, holds_one_value}
 use Rattle.ada_typed.proofs.OfKinds.{and_both}
 use Rattle.ada_sound.proofs.FrugalBodies.{calling_none, lone_nests}
 use Rattle.ada_sound.proofs.Allowance.{Allowance, allocates_thriftily, are_thrifty_declarations, is_thrifty_stmt, are_thrifty, are_thrifty_branches, are_thrifty_handlers, is_thrifty_body}
@@ -153,9 +153,9 @@ module _ (types : List TypeForm) (may_free : Bool) where
     handlers_with (a_handler choices fs hs) is = let both = apart _ _ is in rw (stmts_with fs both.0, handlers_with hs both.1) refl
 
   -- Such a body.
-  pub simple_with : (calm : List Bool) (b : BodyForm) → is_simple_body types calm may_free b ≡ true → is_simple_body types calm true b ≡ true
-  simple_with calm b is =
-      let variables = list_all (λ x. is_calm_kind types calm x.kind) (drop 1 b.variables) in
+  pub simple_with : (b : BodyForm) → is_simple_body types may_free b ≡ true → is_simple_body types true b ≡ true
+  simple_with b is =
+      let variables = list_all (λ x. holds_one_value x.kind) (drop 1 b.variables) in
       let declarations = are_simple_declarations types b.declarations in
       let statements = are_simple types may_free b.statements in
       let four = apart (variables && declarations && statements) (are_simple_handlers types may_free b.handlers) is in
@@ -164,23 +164,23 @@ module _ (types : List TypeForm) (may_free : Bool) where
       (and_both (variables && declarations) (are_simple types true b.statements) three.0 (stmts_with b.statements three.1)) (handlers_with b.handlers four.1)
 
 -- The parts of a simple body.
-pub record SimpleParts (types : List TypeForm) (calm : List Bool) (b : BodyForm) : Type 0 where
-  pub variables : list_all (λ x. is_calm_kind types calm x.kind) (drop 1 b.variables) ≡ true
+pub record SimpleParts (types : List TypeForm) (b : BodyForm) : Type 0 where
+  pub variables : list_all (λ x. holds_one_value x.kind) (drop 1 b.variables) ≡ true
   pub declarations : are_simple_declarations types b.declarations ≡ true
   pub statements : are_simple types true b.statements ≡ true
   pub handlers : are_simple_handlers types true b.handlers ≡ true
 
-pub simple_parts : (types : List TypeForm) (calm : List Bool) (b : BodyForm) → is_simple_body types calm true b ≡ true → SimpleParts types calm b
-simple_parts types calm b is =
+pub simple_parts : (types : List TypeForm) (b : BodyForm) → is_simple_body types true b ≡ true → SimpleParts types b
+simple_parts types b is =
     let four = apart _ _ is in
     let three = apart _ _ four.0 in
     let two = apart _ _ three.0 in
     record { variables = two.0; declarations = two.1; statements = three.1; handlers = four.1 }
 
 -- It is frugal.
-pub simple_frugal : (calm : List Bool) (frugal : Thrift) (b : BodyForm) → is_simple_body frugal.types calm true b ≡ true → is_frugal_body frugal b ≡ true
-simple_frugal calm frugal b is =
-    let parts = simple_parts frugal.types calm b is in
+pub simple_frugal : (frugal : Thrift) (b : BodyForm) → is_simple_body frugal.types true b ≡ true → is_frugal_body frugal b ≡ true
+simple_frugal frugal b is =
+    let parts = simple_parts frugal.types b is in
     rw (
       frugal_declarations frugal b.declarations parts.declarations,
       frugal_stmts frugal b.statements parts.statements,
@@ -188,9 +188,9 @@ simple_frugal calm frugal b is =
     ) refl
 
 -- It is so where bodies allocate and free no object with controlled parts.
-pub simple_thrifty : (calm : List Bool) (allowance : Allowance) (b : BodyForm) → is_simple_body allowance.types calm true b ≡ true → is_thrifty_body allowance false b ≡ true
-simple_thrifty calm allowance b is =
-    let parts = simple_parts allowance.types calm b is in
+pub simple_thrifty : (allowance : Allowance) (b : BodyForm) → is_simple_body allowance.types true b ≡ true → is_thrifty_body allowance false b ≡ true
+simple_thrifty allowance b is =
+    let parts = simple_parts allowance.types b is in
     rw (
       thrifty_declarations allowance b.declarations parts.declarations,
       thrifty_stmts allowance b.statements parts.statements,
@@ -199,6 +199,6 @@ simple_thrifty calm allowance b is =
 
 -- It creates no collection, so it nests anywhere.
 pub simple_nests :
-    (types : List TypeForm) (calm : List Bool) (callees : Callees) (b : BodyForm) (around : List ℕ) → is_simple_body types calm true b ≡ true
+    (types : List TypeForm) (callees : Callees) (b : BodyForm) (around : List ℕ) → is_simple_body types true b ≡ true
     → body_nests types callees b around ≡ true
-simple_nests types calm callees b around is = lone_nests types callees b around (simple_frugal calm (calling_none types) b is)
+simple_nests types callees b around is = lone_nests types callees b around (simple_frugal (calling_none types) b is)

@@ -18,7 +18,7 @@ use Rattle.ada_flow.specs.Tracking.{Tracks, no_tracks}
 use Rattle.ada_meaning.specs.Step.{blanks}
 use Rattle.ada_meaning.specs.Named.{State, named}
 use Rattle.ada_meaning.specs.Run.{here, first_state}
-use Rattle.ada_sound.specs.Always.{LetsNothingOut, SparesHolders, SparesNewer, SparesOwn, reaches_holder}
+use Rattle.ada_sound.specs.Always.{LetsNothingOut, SparesAdjusted, SparesHolders, SparesNewer, SparesOwn, reaches_holder}
 use Rattle.ada_idle.proofs.Idle.{IsIdle}
 use Rattle.ada_idle.proofs.Runs.{first_idle}
 use Rattle.ada_idle.proofs.Unadjusted.{AdjustsNone}
@@ -59,6 +59,7 @@ pub record Sound (program : Program) (s : State) : Type 0 where
   pub frees_own : FreesItsOwn (program_form program)
   pub spares_own : SparesOwn program
   pub spares_newer : SparesNewer program
+  pub spares_adjusted : SparesAdjusted (program_form program)
   pub lets_nothing_out : LetsNothingOut (program_form program)
   pub spares_holders : SparesHolders program
   pub obeys : Obeys program
@@ -118,14 +119,15 @@ ready_first program input well obeys =
       },
     )
 
-pub sound_first : (program : Program) (input : List ℤ) → IsWellFormed (program_form program) → operations_are_in_use (program_form program) ≡ true → CollectionsNest (program_form program) → FreesItsOwn (program_form program) → SparesOwn program → SparesNewer program → LetsNothingOut (program_form program) → SparesHolders program → ObeysRules program → Sound program (first_state program input)
-sound_first program input well uses nest own spares newer lets_none holders obeys = let obeys_so : Obeys program = (tracks_safely (program_form program) well uses, obeys) in record {
+pub sound_first : (program : Program) (input : List ℤ) → IsWellFormed (program_form program) → operations_are_in_use (program_form program) ≡ true → CollectionsNest (program_form program) → FreesItsOwn (program_form program) → SparesOwn program → SparesNewer program → SparesAdjusted (program_form program) → LetsNothingOut (program_form program) → SparesHolders program → ObeysRules program → Sound program (first_state program input)
+sound_first program input well uses nest own spares newer adjusted lets_none holders obeys = let obeys_so : Obeys program = (tracks_safely (program_form program) well uses, obeys) in record {
   reached = (input, [], here);
   well = well;
   in_use = uses;
   frees_own = own;
   spares_own = spares;
   spares_newer = newer;
+  spares_adjusted = adjusted;
   lets_nothing_out = lets_none;
   spares_holders = holders;
   obeys = obeys_so;

@@ -27,7 +27,6 @@ use Rattle.ada_quiet.specs.Apart.{is_this_one, is_adjust_of, is_tracker, body_ca
 use Rattle.ada_quiet.specs.Idle.{makes_parts, copies_parts}
 use Rattle.ada_quiet.specs.InUse.{leaves_access, tracks_nothing, uses_adjust, may_be_frugal, uses_operations, operations_are_idle, operations_may_be_called, operations_are_in_use, is_copied_in_order, may_track, adjusts_nothing, operations_stand_in_order}
 use Rattle.ada_quiet.specs.Quiet.{has_access, is_of_access, operation_body}
-use Rattle.ada_quiet.specs.Calm.{names_no_trackers}
 use Rattle.ada_sound.proofs.OperationStarts.{apart}
 use Rattle.ada_sound.specs.Untracked.{AdjustsNoOwners}
 
@@ -72,20 +71,13 @@ module _ (p : ProgramForm) where
 
   -- Where components may be tracked, operations may be frugal, and the components of each record stand in order.
   frugal_and_order : may_track p ≡ true → (may_be_frugal p ≡ true) × (list_all (is_copied_in_order p.types) p.types ≡ true)
-  frugal_and_order may =
-      let two = apart (may_be_frugal p && names_no_trackers p) (list_all (is_copied_in_order p.types) p.types) may in
-      ((apart (may_be_frugal p) (names_no_trackers p) two.0).0, two.1)
+  frugal_and_order may = apart (may_be_frugal p) (list_all (is_copied_in_order p.types) p.types) may
 
   pub frugal_too : may_track p ≡ true → may_be_frugal p ≡ true
   frugal_too may = (frugal_and_order may).0
 
   pub order_too : may_track p ≡ true → list_all (is_copied_in_order p.types) p.types ≡ true
   order_too may = (frugal_and_order may).1
-
-  -- And no component names an object with a part whose Adjust tracks.
-  pub names_none_too : may_track p ≡ true → names_no_trackers p ≡ true
-  names_none_too may =
-      (apart (may_be_frugal p) (names_no_trackers p) (apart (may_be_frugal p && names_no_trackers p) (list_all (is_copied_in_order p.types) p.types) may).0).1
 
   pub stands_apart : may_track p ≡ true → operations_stand_apart p ≡ true
   stands_apart may = frugal_too may

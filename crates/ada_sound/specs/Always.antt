@@ -10,13 +10,13 @@ use Rattle.ada_text.specs.declared.spot.Spot.{Spot}
 use Rattle.ada_flow.specs.declared.rule.Rule.{Rule}
 use Rattle.ada_program.specs.Form.{declaration_forms, stmt_forms, handler_forms}
 use Rattle.ada_program.specs.ProgramForm.{ProgramForm, TypeForm, record_of, access_to, object_of, main_body, program_form, seen_in}
-use Rattle.ada_program.specs.WellFormed.{IsWellFormed, components_reached, is_access, named_in}
+use Rattle.ada_program.specs.WellFormed.{IsWellFormed, components_reached, designated_type, is_access, named_in}
 use Rattle.ada_program.specs.Nested.{CollectionsNest}
 use Rattle.ada_program.specs.Freed.{FreesItsOwn}
 use Rattle.ada_deeds.specs.Does.{Does}
 use Rattle.ada_deeds.specs.Implicit.{implicit_of}
 use Rattle.ada_deeds.specs.declared.deed.Callee.TheVariants as callee
-use Rattle.ada_deeds.specs.declared.deed.Deed.TheVariants.{Raises}
+use Rattle.ada_deeds.specs.declared.deed.Deed.TheVariants.{Raises, Follows}
 use Rattle.ada_deeds.specs.declared.deed.Operation.TheVariants.{Adjust, Finalize}
 use Rattle.ada_effects.specs.Effects.{Implicit, effects_of}
 use Rattle.ada_flow.specs.Flow.{Holds, goes, faults, Around, body_around, keeping_of, declarations_flow, stmts_flow, handlers_flow, first_holds, program_flow, types_of, variables_of, ObeysRules}
@@ -67,6 +67,11 @@ SparesNewer program =
     (t u : ℕ) → is_access (program_form program).types t ≡ true → (implicit_of (program_form program)).end_reaches t u ≡ true
     → is_created_before (collections_of (program_form program)) u t ≡ true
 
+-- Where an object of an access type is adjusted, no value of that type is followed (7.6): none that leads to the object.
+abbrev pub SparesAdjusted : ProgramForm → Type 0
+SparesAdjusted p = (access : ℕ) (whole : TypeNo) → designated_type p.types access ≡ Some whole.0
+    → ¬ (Does p (Follows (record { 0 = access })) (callee.Parts Adjust whole))
+
 -- In a program in which something creates an object with controlled parts, or assigns a record with some, no exception comes out where a record is finalized:
 -- out of the Finalize of no part of it. In one in which something copies a record with some, none comes out where one is adjusted (7.6, 7.6.1). In other
 -- programs no Finalize, or no Adjust, is called implicitly.
@@ -112,7 +117,7 @@ pub record IsChecked (program : Program) : Type 0 where
   -- Finalize by its text (7.6); where operations stand apart, in whatever order collections are created, Initialize and Finalize may also move, follow and
   -- free, declare record objects whose components name objects of the main procedure's collections alone, and call what does so alone, and Initialize may also
   -- allocate; and Adjust of a type that declares components of access types may allocate, move, follow and free, so that these own what they
-  -- name, or are null, where no component names an object with a part that has such an Adjust; an Adjust allocates and frees no object with controlled parts;
+  -- name, or are null; such an Adjust allocates and frees no object with controlled parts;
   -- where no Adjust is called, a frugal one is in use; and where none is called, each operation is
   pub in_use : operations_are_in_use (program_form program) ≡ true
   -- no object lies in a collection that lasts longer than one in which its components' objects lie (3.10.2, 7.6.1)
@@ -123,6 +128,8 @@ pub record IsChecked (program : Program) : Type 0 where
   pub spares_own : SparesOwn program
   -- what is freed or followed there is of access types whose collections are created before that of its own (7.6.1)
   pub spares_newer : SparesNewer program
+  -- where an object is adjusted, no value of its own access type is followed (7.6)
+  pub spares_adjusted : SparesAdjusted (program_form program)
   -- no exception comes out where a record is finalized, in a program in which a Finalize may be called, or adjusted, in one in which an Adjust may be (7.6.1)
   pub lets_nothing_out : LetsNothingOut (program_form program)
   -- where a Finalize may touch storage, and something creates an object with controlled parts, no component of a record frees an object whose end reaches an
@@ -235,6 +242,7 @@ pub record Breaks (rule : Rule) (program : Program) : Type 0 where
   pub frees_own : FreesItsOwn (program_form program)
   pub spares_own : SparesOwn program
   pub spares_newer : SparesNewer program
+  pub spares_adjusted : SparesAdjusted (program_form program)
   pub lets_nothing_out : LetsNothingOut (program_form program)
   pub spares_holders : SparesHolders program
   pub spot : Spot
@@ -248,6 +256,7 @@ pub record IsIllFormed (program : Program) : Type 0 where
   pub frees_own : FreesItsOwn (program_form program)
   pub spares_own : SparesOwn program
   pub spares_newer : SparesNewer program
+  pub spares_adjusted : SparesAdjusted (program_form program)
   pub lets_nothing_out : LetsNothingOut (program_form program)
   pub spares_holders : SparesHolders program
   pub obeys : ObeysRules program
@@ -260,6 +269,7 @@ pub record IsIllNested (program : Program) : Type 0 where
   pub frees_own : FreesItsOwn (program_form program)
   pub spares_own : SparesOwn program
   pub spares_newer : SparesNewer program
+  pub spares_adjusted : SparesAdjusted (program_form program)
   pub lets_nothing_out : LetsNothingOut (program_form program)
   pub spares_holders : SparesHolders program
   pub obeys : ObeysRules program
@@ -272,6 +282,7 @@ pub record FreesOthers (program : Program) : Type 0 where
   pub frees_others : FreesItsOwn (program_form program) → ⊥
   pub spares_own : SparesOwn program
   pub spares_newer : SparesNewer program
+  pub spares_adjusted : SparesAdjusted (program_form program)
   pub lets_nothing_out : LetsNothingOut (program_form program)
   pub spares_holders : SparesHolders program
   pub obeys : ObeysRules program
@@ -284,6 +295,7 @@ pub record NotInUse (program : Program) : Type 0 where
   pub frees_own : FreesItsOwn (program_form program)
   pub spares_own : SparesOwn program
   pub spares_newer : SparesNewer program
+  pub spares_adjusted : SparesAdjusted (program_form program)
   pub lets_nothing_out : LetsNothingOut (program_form program)
   pub spares_holders : SparesHolders program
   pub obeys : ObeysRules program
@@ -297,6 +309,7 @@ pub record LetsSomeOut (program : Program) : Type 0 where
   pub frees_own : FreesItsOwn (program_form program)
   pub spares_own : SparesOwn program
   pub spares_newer : SparesNewer program
+  pub spares_adjusted : SparesAdjusted (program_form program)
   pub lets_some_out : LetsNothingOut (program_form program) → ⊥
   pub spares_holders : SparesHolders program
   pub obeys : ObeysRules program
@@ -309,6 +322,20 @@ pub record UsesNewer (program : Program) : Type 0 where
   pub frees_own : FreesItsOwn (program_form program)
   pub spares_own : SparesOwn program
   pub uses_newer : SparesNewer program → ⊥
+  pub spares_adjusted : SparesAdjusted (program_form program)
+  pub lets_nothing_out : LetsNothingOut (program_form program)
+  pub spares_holders : SparesHolders program
+  pub obeys : ObeysRules program
+
+-- The program has passed all other checks, but where an object is adjusted, a value of its own access type may be followed.
+pub record FollowsAdjusted (program : Program) : Type 0 where
+  pub well_formed : IsWellFormed (program_form program)
+  pub in_use : operations_are_in_use (program_form program) ≡ true
+  pub nests : CollectionsNest (program_form program)
+  pub frees_own : FreesItsOwn (program_form program)
+  pub spares_own : SparesOwn program
+  pub spares_newer : SparesNewer program
+  pub follows_adjusted : SparesAdjusted (program_form program) → ⊥
   pub lets_nothing_out : LetsNothingOut (program_form program)
   pub spares_holders : SparesHolders program
   pub obeys : ObeysRules program

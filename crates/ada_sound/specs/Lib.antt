@@ -33,6 +33,8 @@ pub mod StockingExample
 pub mod TaggingExample
 -- one whose Finalize declares such an object
 pub mod MeteringExample
+-- one whose Adjust follows a value that names the object which is adjusted
+pub mod CrossingExample
 -- what the rules let through
 pub mod Owners
 -- what they say of calls

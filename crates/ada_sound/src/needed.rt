@@ -20,6 +20,7 @@ ghost use Rattle.ada_sound.specs.RecordExamples as record_examples;
 ghost use Rattle.ada_sound.specs.CallExamples as call_examples;
 ghost use Rattle.ada_sound.specs.PoolExamples as pool_examples;
 ghost use Rattle.ada_sound.specs.OperationExamples as operation_examples;
+ghost use Rattle.ada_sound.specs.CrossingExample as crossing_example;
 
 /// The rules are needed. Of programs that are well formed, whose collections nest, and where each Free is by the
 /// instance for the access type of what it frees, one that breaks the rules follows an access value whose object is
@@ -62,7 +63,10 @@ ghost use Rattle.ada_sound.specs.OperationExamples as operation_examples;
 /// And what is freed or followed there is in collections that were created before its own (`SparesNewer`): a newer
 /// collection goes before an older one, so a Finalize that frees what a component of its object names there frees what is
 /// gone, and one that only follows it comes to an object that is gone; both break S8, and keep `SparesOwn` and
-/// `SparesHolders`. And operations are in use: a Finalize that assigns to its formal parameter as a whole finalizes that twice.
+/// `SparesHolders`. And where an object is adjusted, no value of its own access type is followed (`SparesAdjusted`): an Adjust
+/// that follows a component to the very object that is adjusted frees there what the copy shares with the record that was
+/// copied, and behind the assignment that is followed by way of this record; that breaks S8, and nothing else. And operations
+/// are in use: a Finalize that assigns to its formal parameter as a whole finalizes that twice.
 /// And no exception comes out where a record is finalized (`LetsNothingOut`, S9): a record object whose Finalize raises
 /// `Constraint_Error`, and handles nothing, is finalized where the main procedure is left, and the exception would leave that
 /// Finalize (7.6.1), which is no safe end of a run.
@@ -162,6 +166,10 @@ pub fn rules_are_needed()
         × (operations_of program.types.items 0 ≡ operation_examples.node_operations)
         × (body_forms program ≡ operation_examples.clearing_finalize ∷ []) × (stmt_forms program ≡ operation_examples.node_and_cell)
         × always.UsesNewer program × always.HaltsAfter operation_examples.clearing_events (Erroneous EndsTwice) program }
+    ensures crosses { (program : Program)
+        × (operations_of program.types.items 0 ≡ crossing_example.crossing_operations)
+        × (body_forms program ≡ crossing_example.crossing_adjust ∷ []) × (stmt_forms program ≡ crossing_example.crossing_stmts)
+        × always.FollowsAdjusted program × always.HaltsAfter crossing_example.crossing_events (Erroneous FollowsGone) program }
     ensures renews { (program : Program)
         × (operations_of program.types.items 0 ≡ operation_examples.escaping_operations)
         × (body_forms program ≡ operation_examples.renewing_finalize ∷ [])

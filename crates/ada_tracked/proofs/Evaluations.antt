@@ -1,6 +1,6 @@
 -- Forms are evaluated, and an object is allocated.
 
-use Rattle.std.proofs.Common.{◌≡◌, ℕ, Bool, true, false, List, [], ◌∷◌, ◌++◌, drop, map, Option, Some, None, Result, Ok, Err, refl, sym, ap, ◌∙◌}
+use Rattle.std.proofs.Common.{◌≡◌, ℕ, Bool, true, false, List, [], ◌∷◌, ◌++◌, drop, Option, Some, None, Result, Ok, Err, refl, sym, ap, ◌∙◌}
 use Rattle.std.specs.Prelude.{not}
 use Rattle.ada_values.specs.declared.value.Value.{Value as ScalarValue}
 use Rattle.ada_values.specs.declared.operator.BinaryOperator.{BinaryOperator}
@@ -8,32 +8,32 @@ use Rattle.ada_values.specs.declared.operator.UnaryOperator.{UnaryOperator}
 use Rattle.ada_values.specs.declared.fault.OperatorFault.{OperatorFault}
 use Rattle.ada_values.specs.declared.fault.OperatorFault.TheVariants.{Overflow, DivisionByZero, WrongType}
 use Rattle.ada_values.specs.Outcome.{outcome_of, unary_outcome_of}
-use Rattle.ada_program.specs.declared.program.ComponentKind.{ComponentKind}
-use Rattle.ada_program.specs.declared.program.ComponentKind.TheVariants as component
 use Rattle.ada_program.specs.declared.program.TypeDefinition.{TypeDefinition}
 use Rattle.ada_program.specs.declared.program.Exception.TheVariants.{ConstraintError, StorageError}
 use Rattle.ada_program.specs.Form.{ExpressionForm, integer, boolean, reads, is_null, applied_to, chained, LinksForm, no_more_links, a_link, ItemForm, null_item, item_of_path, item_of_value, item_of_record, RightForm, nothing, value_of, allocates, allocates_default, computes}
 use Rattle.ada_program.specs.ProgramForm.{BodyForm}
-use Rattle.ada_program.specs.Typed.{reached_of, words_of}
+use Rattle.ada_program.specs.Typed.{words_of}
 use Rattle.ada_parts.specs.declared.tasks.Direction.TheVariants.{PartsFirst}
 use Rattle.ada_parts.specs.Task.{Task}
 use Rattle.ada_meaning.specs.declared.event.Birth.TheVariants.{Creation}
+use Rattle.ada_meaning.specs.declared.state.Mode.TheVariants.{Running}
 use Rattle.ada_meaning.specs.declared.state.Value.{Value}
 use Rattle.ada_meaning.specs.declared.state.Value.TheVariants.{Null, Names, Scalar, Part}
 use Rattle.ada_meaning.specs.Event.{Quiet, Allocate}
 use Rattle.ada_meaning.specs.Frame.{Treatment, begins, Frame}
 use Rattle.ada_meaning.specs.Frame as frame
 use Rattle.ada_meaning.specs.State.{Activation, Destination, counted}
-use Rattle.ada_meaning.specs.Step.{asks, all_tasks, treating, at, raised, computed, newest, expression_next, null_test_next, is_decided, link_next, links_next, outcome_next, item_next, items_next, new_cell, granted, answered, new_next, initial_value, initial_values, initialized, right_next}
+use Rattle.ada_meaning.specs.Step.{asks, all_tasks, treating, at, raised, computed, newest, expression_next, null_test_next, is_decided, link_next, links_next, outcome_next, item_next, items_next, new_cell, granted, answered, new_next, initialized, right_next}
 use Rattle.ada_meaning.specs.Named.{Object, State, named, as_value, unary_given, binary_given, reads_boolean, created}
 use Rattle.ada_tracked.specs.Forms.{seen_expression, seen_links, seen_item, seen_items, seen_right}
 use Rattle.ada_tracked.specs.Frames.{View, seen_control, blanked, tracked_values}
 use Rattle.ada_tracked.specs.Simple.{ExpressionIsSimple, ItemIsSimple, ItemsAreSimple, RightIsSimple}
-use Rattle.ada_tracked.specs.Seen.{AreOther, seen_state, Seen, plainly, IsWatched}
+use Rattle.ada_tracked.specs.Seen.{awaits_holder, seen_state, Seen, plainly, IsWatched}
+use Rattle.ada_tracked.specs.Looking.{ExpressionLooksElsewhere, ItemsLookElsewhere, RightLooksElsewhere}
 use Rattle.ada_tracked.specs.Law.{Shown}
-use Rattle.ada_tracked.proofs.Lists.{other_drop, other_in_front}
-use Rattle.ada_tracked.proofs.Heaps.{create_blanked, values_created, created_same, created_other}
-use Rattle.ada_tracked.proofs.Found.{running, Stays, plain}
+use Rattle.ada_tracked.proofs.Lists.{clear}
+use Rattle.ada_tracked.proofs.Heaps.{create_blanked, values_created, created_same}
+use Rattle.ada_tracked.proofs.Found.{running, Stays, plain, idly}
 use Rattle.ada_tracked.proofs.Named.{named_shown, record_shown}
 
 -- A state by what changes in a step.
@@ -50,86 +50,87 @@ pub treating_seen : (w : View) (v : Value) (treatment : Treatment) (tasks : List
 treating_seen w v treatment [] k = refl
 treating_seen w v treatment (task ∷ tasks) k = refl
 
+-- Where nothing waits for an object, nothing does in front of it either.
+pub treating_calm : (v : Value) (treatment : Treatment) (tasks : List Task) (k : List (Frame Value)) → awaits_holder k ≡ false → awaits_holder (treating v treatment tasks k) ≡ false
+treating_calm v treatment [] k calm = calm
+treating_calm v treatment (task ∷ tasks) k calm = refl
+
 module _ (types : List TypeDefinition) (bodies : List BodyForm) (w : View) where
-  pub expression_shown : (t : State) (e : ExpressionForm) (a : Activation Value) (rest : List (Activation Value)) (s : State) → ExpressionIsSimple w.tracks.first e → IsWatched w a.places s.heap → AreOther w.object a.operands → Stays types bodies w (running a rest s) t (expression_next named (seen_expression w.tracks e) (seen_state w (running a rest s))) → Shown types bodies w t (expression_next named e (running a rest s)) (expression_next named (seen_expression w.tracks e) (seen_state w (running a rest s)))
-  expression_shown t (integer i) a rest s simple p others stays = plain types bodies w t Quiet (computed (named.integer i) (running a rest s)) (refl, others)
-  expression_shown t (boolean b) a rest s simple p others stays = plain types bodies w t Quiet (computed (named.boolean b) (running a rest s)) (refl, others)
-  expression_shown t (reads path) a rest s simple p others stays = named_shown types bodies w t path a rest s simple p others stays
-  expression_shown t (is_null equal path) a rest s simple p others stays =
-      named_shown types bodies w t path a rest (at (frame.TestsNull equal ∷ s.control) s) simple p others stays
-  expression_shown t (applied_to operator e) a rest s simple p others stays =
-      plain types bodies w t Quiet (at (frame.Computes e ∷ frame.AppliesAlone operator ∷ s.control) (running a rest s)) others
-  expression_shown t (chained e links) a rest s simple p others stays =
-      plain types bodies w t Quiet (at (frame.Computes e ∷ frame.Continues links ∷ s.control) (running a rest s)) others
+  pub expression_shown : (t : State) (e : ExpressionForm) (a : Activation Value) (rest : List (Activation Value)) (s : State) → ExpressionIsSimple w.tracks.first e → IsWatched w a.places s.heap → ExpressionLooksElsewhere w.object (at (frame.Computes e ∷ s.control) (running a rest s)) e → awaits_holder s.control ≡ false → Stays types bodies w (running a rest s) t (expression_next named (seen_expression w.tracks e) (seen_state w (running a rest s))) → Shown types bodies w t (expression_next named e (running a rest s)) (expression_next named (seen_expression w.tracks e) (seen_state w (running a rest s)))
+  expression_shown t (integer i) a rest s simple p looks calm stays = idly types bodies w t Quiet (computed (named.integer i) (running a rest s)) calm
+  expression_shown t (boolean b) a rest s simple p looks calm stays = idly types bodies w t Quiet (computed (named.boolean b) (running a rest s)) calm
+  expression_shown t (reads path) a rest s simple p looks calm stays = named_shown types bodies w t path a rest s simple p looks calm stays
+  expression_shown t (is_null equal path) a rest s simple p looks calm stays =
+      named_shown types bodies w t path a rest (at (frame.TestsNull equal ∷ s.control) s) simple p looks refl stays
+  expression_shown t (applied_to operator e) a rest s simple p looks calm stays =
+      plain types bodies w t Quiet (at (frame.Computes e ∷ frame.AppliesAlone operator ∷ s.control) (running a rest s)) tt
+  expression_shown t (chained e links) a rest s simple p looks calm stays =
+      plain types bodies w t Quiet (at (frame.Computes e ∷ frame.Continues links ∷ s.control) (running a rest s)) tt
 
-  pub null_test_shown : (t : State) (equal : Bool) (found : Option Bool) (a : Activation Value) (rest : List (Activation Value)) (s : State) → AreOther w.object a.operands → Shown types bodies w t (null_test_next named equal found (running a rest s)) (null_test_next named equal found (seen_state w (running a rest s)))
-  null_test_shown t true None a rest s others = refl
-  null_test_shown t false None a rest s others = refl
-  null_test_shown t true (Some null) a rest s others = plain types bodies w t Quiet (computed (named.boolean null) (running a rest s)) (refl, others)
-  null_test_shown t false (Some null) a rest s others = plain types bodies w t Quiet (computed (named.boolean (not null)) (running a rest s)) (refl, others)
+  pub null_test_shown : (t : State) (equal : Bool) (found : Option Bool) (a : Activation Value) (rest : List (Activation Value)) (s : State) → awaits_holder s.control ≡ false → Shown types bodies w t (null_test_next named equal found (running a rest s)) (null_test_next named equal found (seen_state w (running a rest s)))
+  null_test_shown t true None a rest s calm = refl
+  null_test_shown t false None a rest s calm = refl
+  null_test_shown t true (Some null) a rest s calm = idly types bodies w t Quiet (computed (named.boolean null) (running a rest s)) calm
+  null_test_shown t false (Some null) a rest s calm = idly types bodies w t Quiet (computed (named.boolean (not null)) (running a rest s)) calm
 
-  link_shown : (t : State) (decided : Bool) (operator : BinaryOperator) (e : ExpressionForm) (links : LinksForm) (a : Activation Value) (rest : List (Activation Value)) (s : State) → AreOther w.object a.operands → Shown types bodies w t (link_next named decided operator e links (running a rest s)) (link_next named decided operator (seen_expression w.tracks e) (seen_links w.tracks links) (seen_state w (running a rest s)))
-  link_shown t true operator e links a rest s others = plain types bodies w t Quiet (at (frame.Continues links ∷ s.control) (running a rest s)) others
-  link_shown t false operator e links a rest s others =
-      plain types bodies w t Quiet (at (frame.Computes e ∷ frame.Applies operator ∷ frame.Continues links ∷ s.control) (running a rest s)) others
+  link_shown : (t : State) (decided : Bool) (operator : BinaryOperator) (e : ExpressionForm) (links : LinksForm) (a : Activation Value) (rest : List (Activation Value)) (s : State) → Shown types bodies w t (link_next named decided operator e links (running a rest s)) (link_next named decided operator (seen_expression w.tracks e) (seen_links w.tracks links) (seen_state w (running a rest s)))
+  link_shown t true operator e links a rest s = plain types bodies w t Quiet (at (frame.Continues links ∷ s.control) (running a rest s)) tt
+  link_shown t false operator e links a rest s =
+      plain types bodies w t Quiet (at (frame.Computes e ∷ frame.Applies operator ∷ frame.Continues links ∷ s.control) (running a rest s)) tt
 
-  pub links_shown : (t : State) (links : LinksForm) (a : Activation Value) (rest : List (Activation Value)) (s : State) → AreOther w.object a.operands → Shown types bodies w t (links_next named links (running a rest s)) (links_next named (seen_links w.tracks links) (seen_state w (running a rest s)))
-  links_shown t no_more_links a rest s others = plain types bodies w t Quiet (running a rest s) others
-  links_shown t (a_link operator e links) a rest s others =
-      link_shown t (is_decided named operator (reads_boolean (newest named (running a rest s)))) operator e links a rest s others
+  pub links_shown : (t : State) (links : LinksForm) (a : Activation Value) (rest : List (Activation Value)) (s : State) → awaits_holder s.control ≡ false → Shown types bodies w t (links_next named links (running a rest s)) (links_next named (seen_links w.tracks links) (seen_state w (running a rest s)))
+  links_shown t no_more_links a rest s calm = idly types bodies w t Quiet (running a rest s) calm
+  links_shown t (a_link operator e links) a rest s calm =
+      link_shown t (is_decided named operator (reads_boolean (newest named (running a rest s)))) operator e links a rest s
 
-  outcome_shown : (t : State) (given : Result ScalarValue OperatorFault) (a : Activation Value) (rest : List (Activation Value)) (s : State) → AreOther w.object a.operands → Shown types bodies w t (outcome_next named (as_value given) (running a rest s)) (outcome_next named (as_value given) (seen_state w (running a rest s)))
-  outcome_shown t (Ok v) a rest s others = plain types bodies w t Quiet (computed (Scalar v) (running a rest s)) (refl, others)
-  outcome_shown t (Err Overflow) a rest s others = plain types bodies w t Quiet (raised ConstraintError (running a rest s)) tt
-  outcome_shown t (Err DivisionByZero) a rest s others = plain types bodies w t Quiet (raised ConstraintError (running a rest s)) tt
-  outcome_shown t (Err WrongType) a rest s others = refl
+  outcome_shown : (t : State) (given : Result ScalarValue OperatorFault) (a : Activation Value) (rest : List (Activation Value)) (s : State) → awaits_holder s.control ≡ false → Shown types bodies w t (outcome_next named (as_value given) (running a rest s)) (outcome_next named (as_value given) (seen_state w (running a rest s)))
+  outcome_shown t (Ok v) a rest s calm = idly types bodies w t Quiet (computed (Scalar v) (running a rest s)) calm
+  outcome_shown t (Err Overflow) a rest s calm = plain types bodies w t Quiet (raised ConstraintError (running a rest s)) tt
+  outcome_shown t (Err DivisionByZero) a rest s calm = plain types bodies w t Quiet (raised ConstraintError (running a rest s)) tt
+  outcome_shown t (Err WrongType) a rest s calm = refl
 
-  pub unary_shown : (t : State) (operator : UnaryOperator) (v : Value) (a : Activation Value) (rest : List (Activation Value)) (s : State) → AreOther w.object a.operands → Shown types bodies w t (outcome_next named (unary_given operator v) (running a rest s)) (outcome_next named (unary_given operator v) (seen_state w (running a rest s)))
-  unary_shown t operator Null a rest s others = refl
-  unary_shown t operator (Names o) a rest s others = refl
-  unary_shown t operator (Scalar v) a rest s others = outcome_shown t (unary_outcome_of operator v) a rest s others
-  unary_shown t operator (Part o place) a rest s others = refl
+  pub unary_shown : (t : State) (operator : UnaryOperator) (v : Value) (a : Activation Value) (rest : List (Activation Value)) (s : State) → awaits_holder s.control ≡ false → Shown types bodies w t (outcome_next named (unary_given operator v) (running a rest s)) (outcome_next named (unary_given operator v) (seen_state w (running a rest s)))
+  unary_shown t operator Null a rest s calm = refl
+  unary_shown t operator (Names o) a rest s calm = refl
+  unary_shown t operator (Scalar v) a rest s calm = outcome_shown t (unary_outcome_of operator v) a rest s calm
+  unary_shown t operator (Part o place) a rest s calm = refl
 
-  pub binary_shown : (t : State) (operator : BinaryOperator) (v u : Value) (a : Activation Value) (rest : List (Activation Value)) (s : State) → AreOther w.object a.operands → Shown types bodies w t (outcome_next named (binary_given operator v u) (running a rest s)) (outcome_next named (binary_given operator v u) (seen_state w (running a rest s)))
-  binary_shown t operator Null u a rest s others = refl
-  binary_shown t operator (Names o) u a rest s others = refl
-  binary_shown t operator (Scalar v) Null a rest s others = refl
-  binary_shown t operator (Scalar v) (Names o) a rest s others = refl
-  binary_shown t operator (Scalar v) (Scalar u) a rest s others = outcome_shown t (outcome_of operator v u) a rest s others
-  binary_shown t operator (Scalar v) (Part o place) a rest s others = refl
-  binary_shown t operator (Part o place) u a rest s others = refl
+  pub binary_shown : (t : State) (operator : BinaryOperator) (v u : Value) (a : Activation Value) (rest : List (Activation Value)) (s : State) → awaits_holder s.control ≡ false → Shown types bodies w t (outcome_next named (binary_given operator v u) (running a rest s)) (outcome_next named (binary_given operator v u) (seen_state w (running a rest s)))
+  binary_shown t operator Null u a rest s calm = refl
+  binary_shown t operator (Names o) u a rest s calm = refl
+  binary_shown t operator (Scalar v) Null a rest s calm = refl
+  binary_shown t operator (Scalar v) (Names o) a rest s calm = refl
+  binary_shown t operator (Scalar v) (Scalar u) a rest s calm = outcome_shown t (outcome_of operator v u) a rest s calm
+  binary_shown t operator (Scalar v) (Part o place) a rest s calm = refl
+  binary_shown t operator (Part o place) u a rest s calm = refl
 
   -- Items.
-  item_shown : (t : State) (i : ItemForm) (a : Activation Value) (rest : List (Activation Value)) (s : State) → ItemIsSimple w.tracks.first i → IsWatched w a.places s.heap → AreOther w.object a.operands → Stays types bodies w (running a rest s) t (item_next named (seen_item w.tracks i) (seen_state w (running a rest s))) → Shown types bodies w t (item_next named i (running a rest s)) (item_next named (seen_item w.tracks i) (seen_state w (running a rest s)))
-  item_shown t null_item a rest s simple p others stays = plain types bodies w t Quiet (computed Null (running a rest s)) (refl, others)
-  item_shown t (item_of_path path) a rest s simple p others stays = named_shown types bodies w t path a rest s simple p others stays
-  item_shown t (item_of_value e) a rest s simple p others stays = plain types bodies w t Quiet (at (frame.Computes e ∷ s.control) (running a rest s)) others
-  item_shown t (item_of_record q) a rest s simple p others stays = record_shown types bodies w t q a rest s simple p others stays
+  item_shown : (t : State) (i : ItemForm) (is : List ItemForm) (a : Activation Value) (rest : List (Activation Value)) (s : State) → ItemIsSimple w.tracks.first i → IsWatched w a.places s.heap → ItemsLookElsewhere w.object (running a rest s) (i ∷ is) → awaits_holder s.control ≡ false → Stays types bodies w (running a rest s) t (item_next named (seen_item w.tracks i) (seen_state w (running a rest s))) → Shown types bodies w t (item_next named i (running a rest s)) (item_next named (seen_item w.tracks i) (seen_state w (running a rest s)))
+  item_shown t null_item is a rest s simple p looks calm stays = idly types bodies w t Quiet (computed Null (running a rest s)) calm
+  item_shown t (item_of_path path) is a rest s simple p looks calm stays = named_shown types bodies w t path a rest s simple p looks calm stays
+  item_shown t (item_of_value e) is a rest s simple p looks calm stays = plain types bodies w t Quiet (at (frame.Computes e ∷ s.control) (running a rest s)) tt
+  item_shown t (item_of_record q) is a rest s simple p looks calm stays = record_shown types bodies w t q a rest s simple p looks stays
 
-  pub items_shown : (t : State) (items : List ItemForm) (a : Activation Value) (rest : List (Activation Value)) (s : State) → ItemsAreSimple w.tracks.first items → IsWatched w a.places s.heap → AreOther w.object a.operands → Stays types bodies w (running a rest s) t (items_next named (seen_items w.tracks items) (seen_state w (running a rest s))) → Shown types bodies w t (items_next named items (running a rest s)) (items_next named (seen_items w.tracks items) (seen_state w (running a rest s)))
-  items_shown t [] a rest s simple p others stays = plain types bodies w t Quiet (running a rest s) others
-  items_shown t (i ∷ is) a rest s simple p others stays = item_shown t i a rest (at (frame.Fills is ∷ s.control) s) simple.0 p others stays
+  pub items_shown : (t : State) (items : List ItemForm) (a : Activation Value) (rest : List (Activation Value)) (s : State) → ItemsAreSimple w.tracks.first items → IsWatched w a.places s.heap → ItemsLookElsewhere w.object (at (frame.Fills items ∷ s.control) (running a rest s)) items → awaits_holder s.control ≡ false → Stays types bodies w (running a rest s) t (items_next named (seen_items w.tracks items) (seen_state w (running a rest s))) → Shown types bodies w t (items_next named items (running a rest s)) (items_next named (seen_items w.tracks items) (seen_state w (running a rest s)))
+  items_shown t [] a rest s simple p looks calm stays = idly types bodies w t Quiet (running a rest s) calm
+  items_shown t (i ∷ is) a rest s simple p looks calm stays =
+      item_shown t i is a rest (at (frame.Fills is ∷ s.control) s) simple.0 p (items_kept i is looks) refl stays
+    where
+      items_kept : (i : ItemForm) (is : List ItemForm) → ItemsLookElsewhere w.object (at (frame.Fills (i ∷ is) ∷ s.control) (running a rest s)) (i ∷ is) → ItemsLookElsewhere w.object (running a rest (at (frame.Fills is ∷ s.control) s)) (i ∷ is)
+      items_kept null_item is looks = tt
+      items_kept (item_of_path path) is looks = looks
+      items_kept (item_of_value e) is looks = tt
+      items_kept (item_of_record q) is looks = looks
 
   -- What is assigned.
-  kinds_other : (kinds : List ComponentKind) → AreOther w.object (map (initial_value named) kinds)
-  kinds_other [] = tt
-  kinds_other (component.Integer i ∷ kinds) = (refl, kinds_other kinds)
-  kinds_other (component.Boolean b ∷ kinds) = (refl, kinds_other kinds)
-  kinds_other (component.Access access ∷ kinds) = (refl, kinds_other kinds)
-
-  initial_other : (kinds : Option (List ComponentKind)) → AreOther w.object (initial_values named kinds)
-  initial_other None = tt
-  initial_other (Some kinds) = kinds_other kinds
-
-  pub right_shown : (t : State) (right : RightForm) (a : Activation Value) (rest : List (Activation Value)) (s : State) → RightIsSimple w.tracks.first right → IsWatched w a.places s.heap → AreOther w.object a.operands → Stays types bodies w (running a rest s) t (right_next named types (seen_right w.tracks right) (seen_state w (running a rest s))) → Shown types bodies w t (right_next named types right (running a rest s)) (right_next named types (seen_right w.tracks right) (seen_state w (running a rest s)))
-  right_shown t nothing a rest s simple p others stays = plain types bodies w t Quiet (computed Null (running a rest s)) (refl, others)
-  right_shown t (value_of path) a rest s simple p others stays = named_shown types bodies w t path a rest s simple p others stays
-  right_shown t (allocates access items) a rest s simple p others stays =
-      plain types bodies w t Quiet (at (frame.Fills items ∷ frame.Creates access (words_of types access) ∷ s.control) (running a rest s)) others
-  right_shown t (allocates_default access) a rest s simple p others stays =
-      plain types bodies w t Quiet (at (frame.Creates access (words_of types access) ∷ s.control) (initialized named types access (running a rest s)))
-      (other_in_front w.object (initial_values named (reached_of types access)) a.operands (initial_other (reached_of types access)) others)
-  right_shown t (computes e) a rest s simple p others stays = plain types bodies w t Quiet (at (frame.Computes e ∷ s.control) (running a rest s)) others
+  pub right_shown : (t : State) (right : RightForm) (a : Activation Value) (rest : List (Activation Value)) (s : State) → RightIsSimple w.tracks.first right → IsWatched w a.places s.heap → RightLooksElsewhere w.object (at (frame.Evaluates right ∷ s.control) (running a rest s)) right → awaits_holder s.control ≡ false → Stays types bodies w (running a rest s) t (right_next named types (seen_right w.tracks right) (seen_state w (running a rest s))) → Shown types bodies w t (right_next named types right (running a rest s)) (right_next named types (seen_right w.tracks right) (seen_state w (running a rest s)))
+  right_shown t nothing a rest s simple p looks calm stays = idly types bodies w t Quiet (computed Null (running a rest s)) calm
+  right_shown t (value_of path) a rest s simple p looks calm stays = named_shown types bodies w t path a rest s simple p looks calm stays
+  right_shown t (allocates access items) a rest s simple p looks calm stays =
+      plain types bodies w t Quiet (at (frame.Fills items ∷ frame.Creates access (words_of types access) ∷ s.control) (running a rest s)) tt
+  right_shown t (allocates_default access) a rest s simple p looks calm stays =
+      plain types bodies w t Quiet (at (frame.Creates access (words_of types access) ∷ s.control) (initialized named types access (running a rest s))) tt
+  right_shown t (computes e) a rest s simple p looks calm stays = plain types bodies w t Quiet (at (frame.Computes e ∷ s.control) (running a rest s)) tt
 
   -- A new object.
   granted_seen : (access count words : ℕ) (home : Destination) (a : Activation Value) (rest : List (Activation Value)) (s : State) → IsWatched w a.places s.heap → granted named types access count words home (seen_state w (running a rest s)) ≡ seen_state w (granted named types access count words home (running a rest s))
@@ -148,15 +149,17 @@ module _ (types : List TypeDefinition) (bodies : List BodyForm) (w : View) where
       (create_blanked w s.heap p.object p.at_object words cell)
       (ap (λ (u : Value). treating u (begins Creation []) tasks (seen_control w s.control)) name ∙ sym (treating_seen w v (begins Creation []) tasks s.control))
 
-  answered_seen : (access count words : ℕ) (home : Destination) (a : Activation Value) (rest : List (Activation Value)) (s : State) → IsWatched w a.places s.heap → AreOther w.object a.operands → (given : Bool) → Seen types bodies w (answered named types access count words home (running a rest s) given) (answered named types access count words home (seen_state w (running a rest s)) given)
-  answered_seen access count words home a rest s p others true =
-      plainly (created_other w s.heap p.object p.at_object words, other_drop w.object count a.operands others) (granted_seen access count words home a rest s p)
-  answered_seen access count words home a rest s p others false = plainly tt refl
+  answered_seen : (access count words : ℕ) (home : Destination) (a : Activation Value) (rest : List (Activation Value)) (s : State) → IsWatched w a.places s.heap → awaits_holder s.control ≡ false → (given : Bool) → Seen types bodies w (answered named types access count words home (running a rest s) given) (answered named types access count words home (seen_state w (running a rest s)) given)
+  answered_seen access count words home a rest s p calm true =
+      let k = treating (created s.heap words) (begins Creation []) (all_tasks types access PartsFirst) s.control in
+      plainly (clear w.object Running k (created s.heap words ∷ drop count a.operands) (treating_calm (created s.heap words) (begins Creation []) (all_tasks types access PartsFirst) s.control calm))
+      (granted_seen access count words home a rest s p)
+  answered_seen access count words home a rest s p calm false = plainly tt refl
 
-  pub new_shown : (t : State) (access count words : ℕ) (home : Option Destination) (a : Activation Value) (rest : List (Activation Value)) (s : State) → IsWatched w a.places s.heap → AreOther w.object a.operands → Shown types bodies w t (new_next named types access count words home (running a rest s)) (new_next named types access count words home (seen_state w (running a rest s)))
-  new_shown t access count words None a rest s p others = plain types bodies w t Quiet (raised StorageError (running a rest s)) tt
-  new_shown t access count words (Some home) a rest s p others = (
+  pub new_shown : (t : State) (access count words : ℕ) (home : Option Destination) (a : Activation Value) (rest : List (Activation Value)) (s : State) → IsWatched w a.places s.heap → awaits_holder s.control ≡ false → Shown types bodies w t (new_next named types access count words home (running a rest s)) (new_next named types access count words home (seen_state w (running a rest s)))
+  new_shown t access count words None a rest s p calm = plain types bodies w t Quiet (raised StorageError (running a rest s)) tt
+  new_shown t access count words (Some home) a rest s p calm = (
     answered named types access count words home (seen_state w (running a rest s)),
     ap (λ (v : Value). asks (Allocate home.pool 0 words v) (answered named types access count words home (seen_state w (running a rest s)))) (created_same w s.heap p.object p.at_object words),
-    answered_seen access count words home a rest s p others,
+    answered_seen access count words home a rest s p calm,
   )

@@ -1,19 +1,18 @@
 -- The body of an Adjust assigns a tracked component of its formal parameter to a variable.
 
-use Rattle.std.proofs.Common.{ℕ, zero, suc, true, false, List, [], ◌∷◌, Option, Some, None, refl, subst, arith}
-use Rattle.std.specs.List.{slice_get}
+use Rattle.std.proofs.Common.{true, false, List, [], ◌∷◌, Some, None, refl, arith}
 use Rattle.ada_program.specs.Form.{PathForm, value_of, nothing, assigns, no_stmts, a_stmt}
 use Rattle.ada_program.specs.ProgramForm.{nowhere}
 use Rattle.ada_meaning.specs.declared.state.Id.{Id}
 use Rattle.ada_meaning.specs.declared.state.Mode.TheVariants.{Running}
 use Rattle.ada_meaning.specs.declared.state.Stage.TheVariants.{Existing}
 use Rattle.ada_meaning.specs.declared.state.Value.{Value}
-use Rattle.ada_meaning.specs.declared.state.Value.TheVariants.{Null, Names, Part}
+use Rattle.ada_meaning.specs.declared.state.Value.TheVariants.{Names, Part}
 use Rattle.ada_meaning.specs.Frame as frame
 use Rattle.ada_meaning.specs.Step.{computed, places}
 use Rattle.ada_meaning.specs.Named.{Object, State, next}
 use Rattle.ada_tracked.specs.Frames.{View}
-use Rattle.ada_tracked.specs.Seen.{AreOther, seen_state, plainly, behind, IsWatched}
+use Rattle.ada_tracked.specs.Seen.{seen_state, plainly, behind, IsWatched}
 use Rattle.ada_tracked.specs.Seen as waiting
 use Rattle.ada_tracked.specs.Example.{ReadsTracked, AssignsTracked, PremisesAreMet}
 
@@ -26,7 +25,7 @@ an_object vs = record {
   out = true;
 }
 
--- The object of the formal parameter, and the one that its component names.
+-- The object of the formal parameter, and the one that its component names. A component of that and a variable name the former.
 abbrev adjusted : Id
 adjusted = record { 0 = 0 }
 
@@ -40,7 +39,7 @@ view = record { tracks = record { first = 2; components = 0 ∷ [] }; object = a
 -- It is read next, and goes to a variable.
 abbrev before : State
 before = record {
-  activations = record { procedure = Some 0; places = Part adjusted (record { component = 0; part = 0 }) ∷ Null ∷ []; operands = [] } ∷ [];
+  activations = record { procedure = Some 0; places = Part adjusted (record { component = 0; part = 0 }) ∷ Names adjusted ∷ []; operands = [] } ∷ [];
   masters = [];
   control =
       frame.Evaluates (value_of (record { root = 0; of_record = false; selectors = 0 ∷ []; spot = nowhere })) ∷ frame.Stores 1 ∷ frame.Does no_stmts
@@ -50,21 +49,11 @@ before = record {
   next = 0;
   allocated = 2;
   born = 0;
-  heap = an_object (shared ∷ []) ∷ an_object [] ∷ [];
+  heap = an_object (shared ∷ []) ∷ an_object (Names adjusted ∷ []) ∷ [];
 }
 
 abbrev after : State
 after = computed shared (record before { control = frame.Stores 1 ∷ frame.Does no_stmts ∷ frame.Returns [] [] ∷ [] })
-
--- None of these components leads to the object.
-abbrev AreOtherIn : Option Object → Type 0
-AreOtherIn None = Unit {0}
-AreOtherIn (Some x) = AreOther adjusted x.cell.values
-
-other_in : (p : ℕ) → AreOtherIn (slice_get before.heap p)
-other_in zero = (refl, tt)
-other_in (suc zero) = tt
-other_in (suc (suc p)) = tt
 
 watched : IsWatched view (places before) before.heap
 watched = record {
@@ -74,17 +63,18 @@ watched = record {
   below = (omega arith, tt);
   apart = (tt, tt);
   no_references = (refl, tt);
-  variables = ((refl, refl), (refl, tt));
+  formal = (refl, refl);
   count = refl;
-  components = λ p x is. subst AreOtherIn is (other_in p);
 }
 
 reads_tracked : ReadsTracked [] [] view before (seen_state view before) after (seen_state view after)
 unfolding next
 reads_tracked = record {
-  before = record { seen = plainly tt refl; watched = watched; simple = (omega arith, tt) };
-  behind = record { seen = plainly (refl, tt) refl; watched = watched; simple = ((omega arith, omega arith), tt) };
+  before = record { seen = plainly tt refl; watched = watched; elsewhere = (refl, tt); simple = (omega arith, tt) };
+  behind = record { seen = plainly tt refl; watched = watched; elsewhere = (refl, tt); simple = ((omega arith, omega arith), tt) };
   holds = (shared, refl, λ none. absurd (cc));
+  variable_names_it = (1, refl);
+  component_names_it = (record { 0 = 1 }, 0, refl);
   follows = refl;
   reads = refl;
 }
@@ -105,9 +95,9 @@ followed = record before { control = frame.Evaluates nothing ∷ frame.StoresIn 
 assigns_tracked : AssignsTracked [] [] view assigning (seen_state view assigning) found followed (seen_state view followed)
 unfolding next
 assigns_tracked = record {
-  before = record { seen = plainly tt refl; watched = watched; simple = ((omega arith, tt), tt) };
-  on_the_way = record { seen = behind (waiting.assigning nothing) 0 2 nowhere no_stmts (frame.Returns [] [] ∷ []) [] refl refl refl tt refl refl; watched = watched; simple = (tt, tt) };
-  behind = record { seen = plainly tt refl; watched = watched; simple = (tt, tt) };
+  before = record { seen = plainly tt refl; watched = watched; elsewhere = (refl, tt); simple = ((omega arith, tt), tt) };
+  on_the_way = record { seen = behind (waiting.assigning nothing) 0 2 nowhere no_stmts (frame.Returns [] [] ∷ []) [] refl refl refl refl refl; watched = watched; elsewhere = (refl, tt); simple = (tt, tt) };
+  behind = record { seen = plainly tt refl; watched = watched; elsewhere = (refl, tt); simple = (tt, tt) };
   finds = refl;
   follows = refl;
   begins = refl;

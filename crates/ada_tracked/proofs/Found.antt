@@ -1,14 +1,12 @@
 -- Where a path leads: the object to which it goes, and what lies there.
 
-use Rattle.std.proofs.Common.{◌≡◌, ℕ, ◌<◌, false, List, [], ◌∷◌, ◌++◌, length, Option, Some, None, refl, sym, ap, ◌∙◌, subst}
+use Rattle.std.proofs.Common.{◌≡◌, ℕ, ◌<◌, Bool, false, List, [], ◌∷◌, ◌++◌, length, Option, Some, None, refl, sym, ap, ◌∙◌, subst}
 use Rattle.std.specs.List.{slice_get, slice_index_or}
 use Rattle.ada_program.specs.declared.program.TypeDefinition.{TypeDefinition}
 use Rattle.ada_program.specs.declared.program.Exception.TheVariants.{ConstraintError}
 use Rattle.ada_program.specs.ProgramForm.{BodyForm}
 use Rattle.ada_meaning.specs.declared.state.Id.{Id}
 use Rattle.ada_meaning.specs.declared.state.Mode.TheVariants.{Running}
-use Rattle.ada_meaning.specs.declared.state.Stage.{Stage}
-use Rattle.ada_meaning.specs.declared.state.Stage.TheVariants.{Building, Existing, Gone}
 use Rattle.ada_meaning.specs.declared.state.Value.{Value}
 use Rattle.ada_meaning.specs.declared.state.Value.TheVariants.{Null, Names, Scalar, Part}
 use Rattle.ada_meaning.specs.Event.{Event, Followed, Quiet}
@@ -16,34 +14,28 @@ use Rattle.ada_meaning.specs.Frame.{Frame}
 use Rattle.ada_meaning.specs.State.{Activation}
 use Rattle.ada_meaning.specs.Heap.{Cell, Found, on_null, on_gone, on_other, finds}
 use Rattle.ada_meaning.specs.Step.{moves, at, raised, computed, set_operands, in_front, record_in, operands, reading, component_next, follow_next, path_next, selected, before_last, last_of, copied_next, copies_next}
-use Rattle.ada_meaning.specs.Named.{Object, State, Next, named, object_at, existing, look, whole, inside, next}
-use Rattle.ada_meaning.specs.Named as named_heap
+use Rattle.ada_meaning.specs.Named.{Object, State, Next, named, look, whole, inside, next}
 use Rattle.ada_tracked.specs.Frames.{View, watched, number_of, blanked, tracked_values, standing}
-use Rattle.ada_tracked.specs.Seen.{IsOther, AreOther, refers, AreNoReferences, seen_state, plainly, following, IsWatched}
+use Rattle.ada_tracked.specs.Seen.{IsOther, awaits_holder, HoldersAreOther, refers, AreNoReferences, seen_state, plainly, following, IsWatched}
+use Rattle.ada_tracked.specs.Looking.{LandsElsewhere, HoldsElsewhere, LeadsElsewhere}
 use Rattle.ada_tracked.specs.Law.{Matches, same, followed, IsSilent, Goes, both, alone, Shown}
 use Rattle.ada_tracked.specs.Law as law
-use Rattle.ada_tracked.proofs.Lists.{other_in_front, other_record, other_got, untracked_read, tracked_below, tracked_read, tracked_no_reference, read_within}
+use Rattle.ada_tracked.proofs.Lists.{clear, landed, untracked_read, tracked_below, tracked_read, tracked_no_reference, read_within}
 use Rattle.ada_tracked.proofs.Heaps.{other_names, values_there, look_apart, look_there, look_blanked}
 
 -- A state in which a body runs.
 abbrev pub running : Activation Value → List (Activation Value) → State → State
 running a rest s = record s { activations = a ∷ rest; mode = Running }
 
--- What lies in an object that is found.
-found_by : (o : Id) (found : Option Object) (cell : Cell Value) → ((x : Object) → found ≡ Some x → AreOther o x.cell.values) → named_heap.seen found ≡ finds cell → AreOther o cell.values
-found_by o None cell each is = absurd (cc)
-found_by o (Some x) cell each is = by_stage x.stage is
-  where
-    by_stage : (stage : Stage) → existing x stage ≡ finds cell → AreOther o cell.values
-    by_stage Building e = let one : x.cell ≡ cell = cc in subst (λ (c : Cell Value). AreOther o c.values) one (each x refl)
-    by_stage Existing e = let one : x.cell ≡ cell = cc in subst (λ (c : Cell Value). AreOther o c.values) one (each x refl)
-    by_stage Gone e = absurd (cc)
+-- What a component holds is found for what waits behind it, if no more selectors follow.
+abbrev EndsElsewhere : (o : Id) → (awaits : Bool) → (selectors : List ℕ) → Value → Type 0
+EndsElsewhere o awaits [] v = LandsElsewhere o awaits v
+EndsElsewhere o awaits (c ∷ cs) v = Unit {0}
 
-pub found_other : (o : Id) (h : List Object) (v : Value) (cell : Cell Value) → ((p : ℕ) (x : Object) → slice_get h p ≡ Some x → AreOther o x.cell.values) → look h v ≡ finds cell → AreOther o cell.values
-found_other o h Null cell each is = absurd (cc)
-found_other o h (Names p) cell each is = found_by o (slice_get h p.0) cell (each p.0) is
-found_other o h (Scalar v) cell each is = absurd (cc)
-found_other o h (Part p place) cell each is = absurd (cc)
+-- So it is of what lies in the object that a value names.
+holds_ends : (o : Id) (h : List Object) (awaits : Bool) (v : Value) (c : ℕ) (cs : List ℕ) → HoldsElsewhere o h awaits v c cs → (cell : Cell Value) (u : Value) → look h v ≡ finds cell → slice_get cell.values c ≡ Some u → EndsElsewhere o awaits cs u
+holds_ends o h awaits v c [] holds cell u found is = holds cell u found is
+holds_ends o h awaits v c (d ∷ cs) holds cell u found is = tt
 
 pub whole_self : (v : Value) → refers v ≡ false → whole v ≡ v
 whole_self Null e = refl
@@ -76,54 +68,55 @@ module _ (types : List TypeDefinition) (bodies : List BodyForm) (w : View) where
   Stays s t n = (k : List (Frame Value)) × (vs : List Value) × (t ≡ standing w s k vs) × (next types bodies t ≡ n)
 
   -- Both take a step with the same event.
-  pub plain : (t : State) (e : Event Value) (after : State) → AreOther w.object (operands after) → Shown types bodies w t (moves e after) (moves e (seen_state w after))
+  pub plain : (t : State) (e : Event Value) (after : State) → HoldersAreOther w.object after.mode after.control (operands after) → Shown types bodies w t (moves e after) (moves e (seen_state w after))
   plain t e after others = both e (seen_state w after) refl (same refl) (plainly others refl)
 
-  -- An object is looked for that is another one.
-  reading_shown : (t : State) (e : Event Value) (cs : List ℕ) (u : Value) (a : Activation Value) (rest : List (Activation Value)) (s : State) → IsOther w.object u → AreOther w.object a.operands → Shown types bodies w t (moves e (reading named cs u (running a rest s))) (moves e (reading named cs u (seen_state w (running a rest s))))
-  reading_shown t e [] u a rest s other others = plain t e (computed u (running a rest s)) (other, others)
-  reading_shown t e (c ∷ cs) u a rest s other others = plain t e (reading named (c ∷ cs) u (running a rest s)) (other, others)
+  -- They do, and nothing waits for an object after it.
+  pub idly : (t : State) (e : Event Value) (after : State) → awaits_holder after.control ≡ false → Shown types bodies w t (moves e after) (moves e (seen_state w after))
+  idly t e after calm = plain t e after (clear w.object after.mode after.control (operands after) calm)
 
-  component_shown : (t : State) (v : Value) (cs : List ℕ) (found : Option Value) (a : Activation Value) (rest : List (Activation Value)) (s : State) → ((u : Value) → found ≡ Some u → IsOther w.object u) → AreOther w.object a.operands → Shown types bodies w t (component_next named v cs found (running a rest s)) (component_next named v cs found (seen_state w (running a rest s)))
-  component_shown t v cs None a rest s other others = refl
-  component_shown t v cs (Some u) a rest s other others = reading_shown t (Followed v) cs u a rest s (other u refl) others
+  -- An object is looked for: another one than this, where something waits for it.
+  reading_shown : (t : State) (e : Event Value) (cs : List ℕ) (u : Value) (a : Activation Value) (rest : List (Activation Value)) (s : State) → EndsElsewhere w.object (awaits_holder s.control) cs u → Shown types bodies w t (moves e (reading named cs u (running a rest s))) (moves e (reading named cs u (seen_state w (running a rest s))))
+  reading_shown t e [] u a rest s ends = plain t e (computed u (running a rest s)) (landed w.object s.control u a.operands ends)
+  reading_shown t e (c ∷ cs) u a rest s ends = plain t e (reading named (c ∷ cs) u (running a rest s)) tt
 
-  follow_shown : (t : State) (v : Value) (c : ℕ) (cs : List ℕ) (found : Found (Cell Value)) (a : Activation Value) (rest : List (Activation Value)) (s : State) → ((cell : Cell Value) → found ≡ finds cell → AreOther w.object cell.values) → AreOther w.object a.operands → Shown types bodies w t (follow_next named v c cs found (running a rest s)) (follow_next named v c cs found (seen_state w (running a rest s)))
-  follow_shown t v c cs on_null a rest s each others = plain t Quiet (raised ConstraintError (running a rest s)) tt
-  follow_shown t v c cs on_gone a rest s each others = refl
-  follow_shown t v c cs on_other a rest s each others = refl
-  follow_shown t v c cs (finds cell) a rest s each others =
-      component_shown t v cs (slice_get cell.values c) a rest s (λ u. other_got w.object cell.values c u (each cell refl)) others
+  component_shown : (t : State) (v : Value) (cs : List ℕ) (found : Option Value) (a : Activation Value) (rest : List (Activation Value)) (s : State) → ((u : Value) → found ≡ Some u → EndsElsewhere w.object (awaits_holder s.control) cs u) → Shown types bodies w t (component_next named v cs found (running a rest s)) (component_next named v cs found (seen_state w (running a rest s)))
+  component_shown t v cs None a rest s ends = refl
+  component_shown t v cs (Some u) a rest s ends = reading_shown t (Followed v) cs u a rest s (ends u refl)
 
-  pub path_shown : (t : State) (cs : List ℕ) (v : Value) (a : Activation Value) (rest : List (Activation Value)) (s : State) → IsWatched w a.places s.heap → IsOther w.object v → AreOther w.object a.operands → Shown types bodies w t (path_next named cs v (running a rest s)) (path_next named cs v (seen_state w (running a rest s)))
-  path_shown t [] v a rest s p other others = plain t Quiet (computed v (running a rest s)) (other, others)
-  path_shown t (c ∷ cs) v a rest s p other others =
+  follow_shown : (t : State) (v : Value) (c : ℕ) (cs : List ℕ) (found : Found (Cell Value)) (a : Activation Value) (rest : List (Activation Value)) (s : State) → ((cell : Cell Value) (u : Value) → found ≡ finds cell → slice_get cell.values c ≡ Some u → EndsElsewhere w.object (awaits_holder s.control) cs u) → Shown types bodies w t (follow_next named v c cs found (running a rest s)) (follow_next named v c cs found (seen_state w (running a rest s)))
+  follow_shown t v c cs on_null a rest s ends = plain t Quiet (raised ConstraintError (running a rest s)) tt
+  follow_shown t v c cs on_gone a rest s ends = refl
+  follow_shown t v c cs on_other a rest s ends = refl
+  follow_shown t v c cs (finds cell) a rest s ends = component_shown t v cs (slice_get cell.values c) a rest s (λ u. ends cell u refl)
+
+  pub path_shown : (t : State) (cs : List ℕ) (v : Value) (a : Activation Value) (rest : List (Activation Value)) (s : State) → IsWatched w a.places s.heap → LeadsElsewhere w.object s.heap (awaits_holder s.control) cs v → Shown types bodies w t (path_next named cs v (running a rest s)) (path_next named cs v (seen_state w (running a rest s)))
+  path_shown t [] v a rest s p leads = plain t Quiet (computed v (running a rest s)) (landed w.object s.control v a.operands leads)
+  path_shown t (c ∷ cs) v a rest s p leads =
       subst (λ (found : Found (Cell Value)). Shown types bodies w t (follow_next named v c cs (look s.heap v) (running a rest s)) (follow_next named v c cs found (seen_state w (running a rest s))))
-      (sym (look_apart w s.heap p.object p.at_object v (other_names w.object v other)))
-      (follow_shown t v c cs (look s.heap v) a rest s (λ cell. found_other w.object s.heap v cell p.components) others)
+      (sym (look_apart w s.heap p.object p.at_object v (other_names w.object v leads.0)))
+      (follow_shown t v c cs (look s.heap v) a rest s (holds_ends w.object s.heap (awaits_holder s.control) v c cs leads.1))
 
   -- A record is copied that lies in another object.
-  copied_shown : (t : State) (v : Value) (found : Option (List Value)) (a : Activation Value) (rest : List (Activation Value)) (s : State) → ((vs : List Value) → found ≡ Some vs → AreOther w.object vs) → AreOther w.object a.operands → Shown types bodies w t (copied_next named v found (running a rest s)) (copied_next named v found (seen_state w (running a rest s)))
-  copied_shown t v None a rest s each others = refl
-  copied_shown t v (Some vs) a rest s each others =
-      plain t (Followed v) (set_operands (in_front vs a.operands) (running a rest s)) (other_in_front w.object vs a.operands (each vs refl) others)
+  copied_shown : (t : State) (v : Value) (found : Option (List Value)) (a : Activation Value) (rest : List (Activation Value)) (s : State) → awaits_holder s.control ≡ false → Shown types bodies w t (copied_next named v found (running a rest s)) (copied_next named v found (seen_state w (running a rest s)))
+  copied_shown t v None a rest s calm = refl
+  copied_shown t v (Some vs) a rest s calm = idly t (Followed v) (set_operands (in_front vs a.operands) (running a rest s)) calm
 
-  copies_found : (t : State) (v : Value) (c count : ℕ) (found : Found (Cell Value)) (a : Activation Value) (rest : List (Activation Value)) (s : State) → ((cell : Cell Value) → found ≡ finds cell → AreOther w.object cell.values) → AreOther w.object a.operands → Shown types bodies w t (copies_next named v c count found (running a rest s)) (copies_next named v c count found (seen_state w (running a rest s)))
-  copies_found t v c count on_null a rest s each others = plain t Quiet (raised ConstraintError (running a rest s)) tt
-  copies_found t v c count on_gone a rest s each others = refl
-  copies_found t v c count on_other a rest s each others = refl
-  copies_found t v c count (finds cell) a rest s each others =
-      copied_shown t v (record_in cell.values c count) a rest s (λ vs. other_record w.object cell.values c count vs (each cell refl)) others
+  copies_found : (t : State) (v : Value) (c count : ℕ) (found : Found (Cell Value)) (a : Activation Value) (rest : List (Activation Value)) (s : State) → awaits_holder s.control ≡ false → Shown types bodies w t (copies_next named v c count found (running a rest s)) (copies_next named v c count found (seen_state w (running a rest s)))
+  copies_found t v c count on_null a rest s calm = plain t Quiet (raised ConstraintError (running a rest s)) tt
+  copies_found t v c count on_gone a rest s calm = refl
+  copies_found t v c count on_other a rest s calm = refl
+  copies_found t v c count (finds cell) a rest s calm = copied_shown t v (record_in cell.values c count) a rest s calm
 
-  pub copies_shown : (t : State) (v : Value) (c count : ℕ) (a : Activation Value) (rest : List (Activation Value)) (s : State) → IsOther w.object v → IsWatched w a.places s.heap → AreOther w.object a.operands → Shown types bodies w t (copies_next named v c count (look s.heap v) (running a rest s)) (copies_next named v c count (look (blanked w s.heap) v) (seen_state w (running a rest s)))
-  copies_shown t v c count a rest s other p others =
+  pub copies_shown : (t : State) (v : Value) (c count : ℕ) (a : Activation Value) (rest : List (Activation Value)) (s : State) → IsOther w.object v → IsWatched w a.places s.heap → awaits_holder s.control ≡ false → Shown types bodies w t (copies_next named v c count (look s.heap v) (running a rest s)) (copies_next named v c count (look (blanked w s.heap) v) (seen_state w (running a rest s)))
+  copies_shown t v c count a rest s other p calm =
       subst (λ (found : Found (Cell Value)). Shown types bodies w t (copies_next named v c count (look s.heap v) (running a rest s)) (copies_next named v c count found (seen_state w (running a rest s))))
       (sym (look_apart w s.heap p.object p.at_object v (other_names w.object v other)))
-      (copies_found t v c count (look s.heap v) a rest s (λ cell. found_other w.object s.heap v cell p.components) others)
+      (copies_found t v c count (look s.heap v) a rest s calm)
 
   -- The object itself, from a component that is not tracked.
-  pub untracked_path : (t : State) (b : ℕ) (cs : List ℕ) (a : Activation Value) (rest : List (Activation Value)) (s : State) → IsWatched w a.places s.heap → number_of w b ≡ None → AreOther w.object a.operands → Shown types bodies w t (path_next named (b ∷ cs) (Names w.object) (running a rest s)) (path_next named (b ∷ cs) (Names w.object) (seen_state w (running a rest s)))
-  untracked_path t b cs a rest s p none others =
+  pub untracked_path : (t : State) (b : ℕ) (cs : List ℕ) (a : Activation Value) (rest : List (Activation Value)) (s : State) → IsWatched w a.places s.heap → number_of w b ≡ None → HoldsElsewhere w.object s.heap (awaits_holder s.control) (Names w.object) b cs → Shown types bodies w t (path_next named (b ∷ cs) (Names w.object) (running a rest s)) (path_next named (b ∷ cs) (Names w.object) (seen_state w (running a rest s)))
+  untracked_path t b cs a rest s p none holds =
       subst (λ (found : Found (Cell Value)). Shown types bodies w t (follow_next named (Names w.object) b cs found (running a rest s)) (follow_next named (Names w.object) b cs (look (blanked w s.heap) (Names w.object)) (seen_state w (running a rest s))))
       (sym (look_there w s.heap p.object p.at_object p.existing))
       (subst (λ (found : Found (Cell Value)). Shown types bodies w t (component_next named (Names w.object) cs (slice_get p.object.cell.values b) (running a rest s)) (follow_next named (Names w.object) b cs found (seen_state w (running a rest s))))
@@ -131,16 +124,11 @@ module _ (types : List TypeDefinition) (bodies : List BodyForm) (w : View) where
       (subst (λ (found : Option Value). Shown types bodies w t (component_next named (Names w.object) cs (slice_get p.object.cell.values b) (running a rest s)) (component_next named (Names w.object) cs found (seen_state w (running a rest s))))
       (sym (untracked_read (watched w) w.tracks.first b p.object.cell.values none))
       (component_shown t (Names w.object) cs (slice_get p.object.cell.values b) a rest s
-      (λ u. other_got w.object p.object.cell.values b u (p.components w.object.0 p.object p.at_object)) others)))
+      (λ u. holds_ends w.object s.heap (awaits_holder s.control) (Names w.object) b cs holds p.object.cell u (look_there w s.heap p.object p.at_object p.existing)))))
 
   -- What a component of the object holds.
   abbrev pub value_at : (h : List Object) (places : List Value) → IsWatched w places h → ℕ → Value
   value_at h places p b = slice_index_or p.object.cell.values b Null
-
-  pub value_other : (h : List Object) (places : List Value) (p : IsWatched w places h) (b i : ℕ) → number_of w b ≡ Some i → IsOther w.object (value_at h places p b)
-  value_other h places p b i is =
-      other_got w.object p.object.cell.values b (value_at h places p b) (p.components w.object.0 p.object p.at_object)
-      (read_within p.object.cell.values b Null (tracked_below (watched w) w.tracks.first b i (length p.object.cell.values) is p.below))
 
   pub value_plain : (h : List Object) (places : List Value) (p : IsWatched w places h) (b i : ℕ) → number_of w b ≡ Some i → refers (value_at h places p b) ≡ false
   value_plain h places p b i is =
@@ -153,19 +141,21 @@ module _ (types : List TypeDefinition) (bodies : List BodyForm) (w : View) where
       ∙ tracked_read (watched w) w.tracks.first b i places p.object.cell.values p.count is
 
   -- A tracked component is read.
-  tracked_reading : (t : State) (cs : List ℕ) (u : Value) (a : Activation Value) (rest : List (Activation Value)) (s : State) → IsOther w.object u → AreOther w.object a.operands → Stays (running a rest s) t (path_next named cs u (seen_state w (running a rest s))) → Shown types bodies w t (moves (Followed (Names w.object)) (reading named cs u (running a rest s))) (path_next named cs u (seen_state w (running a rest s)))
+  tracked_reading : (t : State) (cs : List ℕ) (u : Value) (a : Activation Value) (rest : List (Activation Value)) (s : State) → EndsElsewhere w.object (awaits_holder s.control) cs u → Stays (running a rest s) t (path_next named cs u (seen_state w (running a rest s))) → Shown types bodies w t (moves (Followed (Names w.object)) (reading named cs u (running a rest s))) (path_next named cs u (seen_state w (running a rest s)))
   unfolding next
-  tracked_reading t [] u a rest s other others stays =
-      both Quiet (computed u (seen_state w (running a rest s))) refl (followed refl refl) (plainly (other, others) refl)
-  tracked_reading t (c ∷ cs) u a rest s other others stays =
-      alone (law.followed refl) (following c cs s.control refl refl (other, others) stays.0 stays.1 stays.2 stays.3)
+  tracked_reading t [] u a rest s ends stays =
+      both Quiet (computed u (seen_state w (running a rest s))) refl (followed refl refl) (plainly (landed w.object s.control u a.operands ends) refl)
+  tracked_reading t (c ∷ cs) u a rest s ends stays =
+      alone (law.followed refl) (following c cs s.control refl refl stays.0 stays.1 stays.2 stays.3)
 
-  pub tracked_path : (t : State) (b i : ℕ) (cs : List ℕ) (a : Activation Value) (rest : List (Activation Value)) (s : State) (p : IsWatched w a.places s.heap) → number_of w b ≡ Some i → AreOther w.object a.operands → Stays (running a rest s) t (path_next named cs (value_at s.heap a.places p b) (seen_state w (running a rest s))) → Shown types bodies w t (path_next named (b ∷ cs) (Names w.object) (running a rest s)) (path_next named cs (value_at s.heap a.places p b) (seen_state w (running a rest s)))
-  tracked_path t b i cs a rest s p is others stays =
+  pub tracked_path : (t : State) (b i : ℕ) (cs : List ℕ) (a : Activation Value) (rest : List (Activation Value)) (s : State) (p : IsWatched w a.places s.heap) → number_of w b ≡ Some i → HoldsElsewhere w.object s.heap (awaits_holder s.control) (Names w.object) b cs → Stays (running a rest s) t (path_next named cs (value_at s.heap a.places p b) (seen_state w (running a rest s))) → Shown types bodies w t (path_next named (b ∷ cs) (Names w.object) (running a rest s)) (path_next named cs (value_at s.heap a.places p b) (seen_state w (running a rest s)))
+  tracked_path t b i cs a rest s p is holds stays =
       let u = value_at s.heap a.places p b in
       let lt : b < length p.object.cell.values = tracked_below (watched w) w.tracks.first b i (length p.object.cell.values) is p.below in
+      let there = look_there w s.heap p.object p.at_object p.existing in
+      let read : slice_get p.object.cell.values b ≡ Some u = read_within p.object.cell.values b Null lt in
       subst (λ (found : Found (Cell Value)). Shown types bodies w t (follow_next named (Names w.object) b cs found (running a rest s)) (path_next named cs u (seen_state w (running a rest s))))
-      (sym (look_there w s.heap p.object p.at_object p.existing))
+      (sym there)
       (subst (λ (found : Option Value). Shown types bodies w t (component_next named (Names w.object) cs found (running a rest s)) (path_next named cs u (seen_state w (running a rest s))))
-      (sym (read_within p.object.cell.values b Null lt))
-      (tracked_reading t cs u a rest s (value_other s.heap a.places p b i is) others stays))
+      (sym read)
+      (tracked_reading t cs u a rest s (holds_ends w.object s.heap (awaits_holder s.control) (Names w.object) b cs holds p.object.cell u there read) stays))

@@ -1,10 +1,9 @@
 -- Heaps in which the tracked components of an object hold null.
 
-use Rattle.std.proofs.Common.{◌≡◌, ◌⊎◌, ℕ, Bool, true, false, List, ◌++◌, length, Option, Some, None, refl, sym, ap, ◌∙◌, inl, inr, arith}
+use Rattle.std.proofs.Common.{◌≡◌, ◌⊎◌, ℕ, Bool, true, false, List, ◌++◌, length, Option, Some, None, refl, sym, ap, ◌∙◌, inl, inr}
 use Rattle.std.specs.Prelude.{◌==◌}
 use Rattle.std.specs.List.{slice_get, slice_set}
 use Rattle.std.proofs.lemmas.List.{set-set, set_comm}
-use Rattle.std.proofs.lemmas.Option.{slice_get_within}
 use Rattle.ada_meaning.specs.declared.state.Id.{Id}
 use Rattle.ada_meaning.specs.declared.state.Value.{Value}
 use Rattle.ada_meaning.specs.declared.state.Value.TheVariants.{Null, Names, Scalar, Part}
@@ -14,7 +13,7 @@ use Rattle.ada_meaning.specs.Named.{Object, object_at, changed, existing, look, 
 use Rattle.ada_meaning.specs.Named as named_heap
 use Rattle.ada_tracked.specs.Frames.{View, watched, number_of, number_in, blank_object, blanked, values_at, values_of, tracked_values}
 use Rattle.ada_tracked.specs.Seen.{IsOther, AreApart, AreBelow}
-use Rattle.ada_tracked.proofs.Lists.{same_number, is_same, is_apart, apart_is, set_here, set_there, add_there, set_add, set_length, untracked_set, untracked_values, tracked_set, tracked_blank}
+use Rattle.ada_tracked.proofs.Lists.{same_number, is_same, is_apart, set_here, set_there, add_there, set_add, set_length, untracked_set, untracked_values, tracked_set, tracked_blank}
 
 -- Does a value name this object?
 abbrev pub names : Id → Value → Bool
@@ -193,6 +192,3 @@ module _ (w : View) (h : List Object) (x : Object) (there : object_at h w.object
 
   pub created_same : (words : ℕ) → created (blanked w h) words ≡ created h words
   created_same words = ap (λ (n : ℕ). Names (record { 0 = n })) blanked_length
-
-  pub created_other : (words : ℕ) → IsOther w.object (created h words)
-  created_other words = let lt = slice_get_within h w.object.0 x there in apart_is (length h) w.object.0 (λ e. absurd (omega (arith, e, lt)))

@@ -12,14 +12,14 @@ use Rattle.ada_meaning.specs.declared.state.Value.TheVariants.{Null, Names}
 use Rattle.ada_meaning.specs.Frame.{Frame, is_return}
 use Rattle.ada_meaning.specs.Frame as frame
 use Rattle.ada_meaning.specs.State.{Activation}
-use Rattle.ada_meaning.specs.Step.{at, first_or, older, places, places_of, operands, operands_of, frame_next, mode_next}
+use Rattle.ada_meaning.specs.Step.{at, first_or, older, places, places_of, operands_of, frame_next, mode_next}
 use Rattle.ada_meaning.specs.Named.{State, Next, named, next}
 use Rattle.ada_tracked.specs.Forms.{seen_stmts}
 use Rattle.ada_tracked.specs.Frames.{View, number_of, seen_frame, seen_control, standing}
 use Rattle.ada_tracked.specs.Simple.{FrameIsSimple}
-use Rattle.ada_tracked.specs.Seen.{AreOther, seen_state, Waiting, assigning, getting, freeing, waiting_frame, waiting_statement, variable_path, Seen, plainly, following, elsewhere, behind, IsWatched}
+use Rattle.ada_tracked.specs.Seen.{HoldersAreOther, seen_state, Waiting, assigning, getting, freeing, waiting_frame, waiting_statement, variable_path, Seen, plainly, following, elsewhere, behind, IsWatched}
+use Rattle.ada_tracked.specs.Looking.{LooksElsewhere}
 use Rattle.ada_tracked.specs.Law.{NextIsSimple, Shown, TrackedComponentsRunAsVariables}
-use Rattle.ada_tracked.proofs.Lists.{other_first, other_older}
 use Rattle.ada_tracked.proofs.Found.{running, path_shown}
 use Rattle.ada_tracked.proofs.Storing.{target_elsewhere, target_behind}
 use Rattle.ada_tracked.proofs.Freeing.{receive_elsewhere, receive_behind, free_elsewhere, free_behind}
@@ -81,97 +81,96 @@ seen_first w (frame.ClearsIn o c) k simple = refl
 
 module _ (types : List TypeDefinition) (bodies : List BodyForm) (w : View) where
   -- Where the state stands plainly.
-  plainly_by : (m : Mode) (a : Activation Value) (rest : List (Activation Value)) (k : List (Frame Value)) (s : State) → IsWatched w a.places s.heap → NextIsSimple w k s.masters → AreOther w.object a.operands → Shown types bodies w (seen_state w (of_parts m (a ∷ rest) k s)) (next types bodies (of_parts m (a ∷ rest) k s)) (next types bodies (seen_state w (of_parts m (a ∷ rest) k s)))
+  plainly_by : (m : Mode) (a : Activation Value) (rest : List (Activation Value)) (k : List (Frame Value)) (s : State) → IsWatched w a.places s.heap → NextIsSimple w k s.masters → LooksElsewhere w (of_parts m (a ∷ rest) k s) → HoldersAreOther w.object m k a.operands → Shown types bodies w (seen_state w (of_parts m (a ∷ rest) k s)) (next types bodies (of_parts m (a ∷ rest) k s)) (next types bodies (seen_state w (of_parts m (a ∷ rest) k s)))
   unfolding next
-  plainly_by Running a rest [] s p simple others = refl
-  plainly_by Running a rest (f ∷ k) s p simple others =
+  plainly_by Running a rest [] s p simple looks others = refl
+  plainly_by Running a rest (f ∷ k) s p simple looks others =
       subst (λ (l : List (Frame Value)). Shown types bodies w (seen_state w (at (f ∷ k) (running a rest s))) (frame_next named types bodies f (at k (running a rest s))) (mode_next named types bodies Running (at l (seen_state w (running a rest s)))))
-      (sym (seen_first w f k simple.0)) (frame_shown types bodies w f k a rest s simple.0 simple.1 p others)
-  plainly_by (Raising e) a rest [] s p simple others = refl
-  plainly_by (Raising e) a rest (f ∷ k) s p simple others =
+      (sym (seen_first w f k simple.0)) (frame_shown types bodies w f k a rest s simple.0 simple.1 p looks others)
+  plainly_by (Raising e) a rest [] s p simple looks others = refl
+  plainly_by (Raising e) a rest (f ∷ k) s p simple looks others =
       subst (λ (l : List (Frame Value)). Shown types bodies w (seen_state w (of_parts (Raising e) (a ∷ rest) (f ∷ k) s)) (jump_at (Raising e) f (of_parts (Raising e) (a ∷ rest) k s)) (mode_next named types bodies (Raising e) (at l (seen_state w (of_parts (Raising e) (a ∷ rest) k s)))))
-      (sym (seen_first w f k simple.0)) (jump_shown types bodies w (seen_state w (of_parts (Raising e) (a ∷ rest) (f ∷ k) s)) (Raising e) f a rest (of_parts (Raising e) (a ∷ rest) k s) simple.0 others)
-  plainly_by Exiting a rest [] s p simple others = refl
-  plainly_by Exiting a rest (f ∷ k) s p simple others =
+      (sym (seen_first w f k simple.0)) (jump_shown types bodies w (seen_state w (of_parts (Raising e) (a ∷ rest) (f ∷ k) s)) (Raising e) f a rest (of_parts (Raising e) (a ∷ rest) k s) simple.0 looks)
+  plainly_by Exiting a rest [] s p simple looks others = refl
+  plainly_by Exiting a rest (f ∷ k) s p simple looks others =
       subst (λ (l : List (Frame Value)). Shown types bodies w (seen_state w (of_parts Exiting (a ∷ rest) (f ∷ k) s)) (jump_at Exiting f (of_parts Exiting (a ∷ rest) k s)) (mode_next named types bodies Exiting (at l (seen_state w (of_parts Exiting (a ∷ rest) k s)))))
-      (sym (seen_first w f k simple.0)) (jump_shown types bodies w (seen_state w (of_parts Exiting (a ∷ rest) (f ∷ k) s)) Exiting f a rest (of_parts Exiting (a ∷ rest) k s) simple.0 others)
-  plainly_by Returning a rest [] s p simple others = refl
-  plainly_by Returning a rest (f ∷ k) s p simple others =
+      (sym (seen_first w f k simple.0)) (jump_shown types bodies w (seen_state w (of_parts Exiting (a ∷ rest) (f ∷ k) s)) Exiting f a rest (of_parts Exiting (a ∷ rest) k s) simple.0 looks)
+  plainly_by Returning a rest [] s p simple looks others = refl
+  plainly_by Returning a rest (f ∷ k) s p simple looks others =
       subst (λ (l : List (Frame Value)). Shown types bodies w (seen_state w (of_parts Returning (a ∷ rest) (f ∷ k) s)) (jump_at Returning f (of_parts Returning (a ∷ rest) k s)) (mode_next named types bodies Returning (at l (seen_state w (of_parts Returning (a ∷ rest) k s)))))
-      (sym (seen_first w f k simple.0)) (jump_shown types bodies w (seen_state w (of_parts Returning (a ∷ rest) (f ∷ k) s)) Returning f a rest (of_parts Returning (a ∷ rest) k s) simple.0 others)
+      (sym (seen_first w f k simple.0)) (jump_shown types bodies w (seen_state w (of_parts Returning (a ∷ rest) (f ∷ k) s)) Returning f a rest (of_parts Returning (a ∷ rest) k s) simple.0 looks)
 
-  plainly_shown : (activations : List (Activation Value)) (s : State) → IsWatched w (places_of activations) s.heap → NextIsSimple w s.control s.masters → AreOther w.object (operands_of activations) → Shown types bodies w (seen_state w (record s { activations = activations })) (next types bodies (record s { activations = activations })) (next types bodies (seen_state w (record s { activations = activations })))
-  plainly_shown [] s p simple others = absurd p.variables
-  plainly_shown (a ∷ rest) s p simple others = plainly_by s.mode a rest s.control s p simple others
+  plainly_shown : (activations : List (Activation Value)) (s : State) → IsWatched w (places_of activations) s.heap → NextIsSimple w s.control s.masters → LooksElsewhere w (record s { activations = activations }) → HoldersAreOther w.object s.mode s.control (operands_of activations) → Shown types bodies w (seen_state w (record s { activations = activations })) (next types bodies (record s { activations = activations })) (next types bodies (seen_state w (record s { activations = activations })))
+  plainly_shown [] s p simple looks others = absurd p.formal
+  plainly_shown (a ∷ rest) s p simple looks others = plainly_by s.mode a rest s.control s p simple looks others
 
   -- Where the real state has found a value already.
-  following_by : (t : State) (c : ℕ) (cs : List ℕ) (k : List (Frame Value)) (activations : List (Activation Value)) (s : State) → IsWatched w (places_of activations) s.heap → AreOther w.object (operands_of activations) → Shown types bodies w t (next types bodies (of_parts Running activations (frame.Follows (c ∷ cs) ∷ k) s)) (next types bodies (seen_state w (of_parts Running activations (frame.Follows (c ∷ cs) ∷ k) s)))
+  following_by : (t : State) (c : ℕ) (cs : List ℕ) (k : List (Frame Value)) (activations : List (Activation Value)) (s : State) → IsWatched w (places_of activations) s.heap → LooksElsewhere w (of_parts Running activations (frame.Follows (c ∷ cs) ∷ k) s) → Shown types bodies w t (next types bodies (of_parts Running activations (frame.Follows (c ∷ cs) ∷ k) s)) (next types bodies (seen_state w (of_parts Running activations (frame.Follows (c ∷ cs) ∷ k) s)))
   unfolding next
-  following_by t c cs k [] s p others = absurd p.variables
-  following_by t c cs k (a ∷ rest) s p others =
-      path_shown types bodies w t (c ∷ cs) (first_or Null a.operands) (record a { operands = older a.operands }) rest (at k s) p
-      (other_first w.object a.operands others) (other_older w.object a.operands others)
+  following_by t c cs k [] s p looks = absurd p.formal
+  following_by t c cs k (a ∷ rest) s p looks =
+      path_shown types bodies w t (c ∷ cs) (first_or Null a.operands) (record a { operands = older a.operands }) rest (at k s) p looks
 
-  following_shown : (t : State) (c : ℕ) (cs : List ℕ) (k : List (Frame Value)) (m : Mode) (control : List (Frame Value)) (s : State) → m ≡ Running → control ≡ frame.Follows (c ∷ cs) ∷ k → IsWatched w (places s) s.heap → AreOther w.object (operands_of s.activations) → Shown types bodies w t (next types bodies (record s { mode = m; control = control })) (next types bodies (seen_state w (record s { mode = m; control = control })))
-  following_shown t c cs k m control s running_is control_is p others =
-      subst (λ (mode : Mode). Shown types bodies w t (next types bodies (record s { mode = mode; control = control })) (next types bodies (seen_state w (record s { mode = mode; control = control })))) (sym running_is)
-      (subst (λ (l : List (Frame Value)). Shown types bodies w t (next types bodies (record s { mode = Running; control = l })) (next types bodies (seen_state w (record s { mode = Running; control = l })))) (sym control_is)
-      (following_by t c cs k s.activations s p others))
+  following_shown : (t : State) (c : ℕ) (cs : List ℕ) (k : List (Frame Value)) (m : Mode) (control : List (Frame Value)) (s : State) → m ≡ Running → control ≡ frame.Follows (c ∷ cs) ∷ k → IsWatched w (places s) s.heap → LooksElsewhere w (record s { mode = m; control = control }) → Shown types bodies w t (next types bodies (record s { mode = m; control = control })) (next types bodies (seen_state w (record s { mode = m; control = control })))
+  following_shown t c cs k m control s running_is control_is p =
+      subst (λ (mode : Mode). LooksElsewhere w (record s { mode = mode; control = control }) → Shown types bodies w t (next types bodies (record s { mode = mode; control = control })) (next types bodies (seen_state w (record s { mode = mode; control = control })))) (sym running_is)
+      (subst (λ (l : List (Frame Value)). LooksElsewhere w (record s { mode = Running; control = l }) → Shown types bodies w t (next types bodies (record s { mode = Running; control = l })) (next types bodies (seen_state w (record s { mode = Running; control = l })))) (sym control_is)
+      (following_by t c cs k s.activations s p))
 
   -- Where a component of the object is waited for.
-  elsewhere_by : (waiting : Waiting) (c : ℕ) (k : List (Frame Value)) (vs : List Value) (a : Activation Value) (rest : List (Activation Value)) (s : State) → IsWatched w a.places s.heap → AreOther w.object vs → number_of w c ≡ None → Shown types bodies w (seen_state w (of_parts Running (record a { operands = Names w.object ∷ vs } ∷ rest) (waiting_frame waiting c ∷ k) s)) (next types bodies (of_parts Running (record a { operands = Names w.object ∷ vs } ∷ rest) (waiting_frame waiting c ∷ k) s)) (next types bodies (seen_state w (of_parts Running (record a { operands = Names w.object ∷ vs } ∷ rest) (waiting_frame waiting c ∷ k) s)))
+  elsewhere_by : (waiting : Waiting) (c : ℕ) (k : List (Frame Value)) (vs : List Value) (a : Activation Value) (rest : List (Activation Value)) (s : State) → IsWatched w a.places s.heap → number_of w c ≡ None → LooksElsewhere w (of_parts Running (record a { operands = Names w.object ∷ vs } ∷ rest) (waiting_frame waiting c ∷ k) s) → Shown types bodies w (seen_state w (of_parts Running (record a { operands = Names w.object ∷ vs } ∷ rest) (waiting_frame waiting c ∷ k) s)) (next types bodies (of_parts Running (record a { operands = Names w.object ∷ vs } ∷ rest) (waiting_frame waiting c ∷ k) s)) (next types bodies (seen_state w (of_parts Running (record a { operands = Names w.object ∷ vs } ∷ rest) (waiting_frame waiting c ∷ k) s)))
   unfolding next
-  elsewhere_by (assigning right) c k vs a rest s p others none =
-      target_elsewhere types bodies w (seen_state w (of_parts Running (record a { operands = Names w.object ∷ vs } ∷ rest) (frame.Targets c right ∷ k) s)) c right (record a { operands = vs }) rest (at k s) none p others
-  elsewhere_by getting c k vs a rest s p others none =
-      receive_elsewhere types bodies w (seen_state w (of_parts Running (record a { operands = Names w.object ∷ vs } ∷ rest) (frame.Receives c ∷ k) s)) c (record a { operands = vs }) rest (at k s) none p others
-  elsewhere_by (freeing access) c k vs a rest s p others none =
-      free_elsewhere types bodies w (seen_state w (of_parts Running (record a { operands = Names w.object ∷ vs } ∷ rest) (frame.FreesIn access c ∷ k) s)) access c (record a { operands = vs }) rest (at k s) none p others
+  elsewhere_by (assigning right) c k vs a rest s p none looks =
+      target_elsewhere types bodies w (seen_state w (of_parts Running (record a { operands = Names w.object ∷ vs } ∷ rest) (frame.Targets c right ∷ k) s)) c right (record a { operands = vs }) rest (at k s) none p
+  elsewhere_by getting c k vs a rest s p none looks =
+      receive_elsewhere types bodies w (seen_state w (of_parts Running (record a { operands = Names w.object ∷ vs } ∷ rest) (frame.Receives c ∷ k) s)) c (record a { operands = vs }) rest (at k s) none p looks.0
+  elsewhere_by (freeing access) c k vs a rest s p none looks =
+      free_elsewhere types bodies w (seen_state w (of_parts Running (record a { operands = Names w.object ∷ vs } ∷ rest) (frame.FreesIn access c ∷ k) s)) access c (record a { operands = vs }) rest (at k s) none looks.1 p looks.0
 
-  elsewhere_shown : (waiting : Waiting) (c : ℕ) (k : List (Frame Value)) (vs : List Value) (m : Mode) (control : List (Frame Value)) (activations : List (Activation Value)) (s : State) → m ≡ Running → control ≡ waiting_frame waiting c ∷ k → operands_of activations ≡ Names w.object ∷ vs → IsWatched w (places_of activations) s.heap → AreOther w.object vs → number_of w c ≡ None → Shown types bodies w (seen_state w (of_parts m activations control s)) (next types bodies (of_parts m activations control s)) (next types bodies (seen_state w (of_parts m activations control s)))
-  elsewhere_shown waiting c k vs m control [] s running_is control_is operands_are p others none = absurd p.variables
-  elsewhere_shown waiting c k vs m control (a ∷ rest) s running_is control_is operands_are p others none =
-      subst (λ (mode : Mode). Shown types bodies w (seen_state w (of_parts mode (a ∷ rest) control s)) (next types bodies (of_parts mode (a ∷ rest) control s)) (next types bodies (seen_state w (of_parts mode (a ∷ rest) control s)))) (sym running_is)
-      (subst (λ (l : List (Frame Value)). Shown types bodies w (seen_state w (of_parts Running (a ∷ rest) l s)) (next types bodies (of_parts Running (a ∷ rest) l s)) (next types bodies (seen_state w (of_parts Running (a ∷ rest) l s)))) (sym control_is)
-      (subst (λ (us : List Value). Shown types bodies w (seen_state w (of_parts Running (record a { operands = us } ∷ rest) (waiting_frame waiting c ∷ k) s)) (next types bodies (of_parts Running (record a { operands = us } ∷ rest) (waiting_frame waiting c ∷ k) s)) (next types bodies (seen_state w (of_parts Running (record a { operands = us } ∷ rest) (waiting_frame waiting c ∷ k) s)))) (sym operands_are)
-      (elsewhere_by waiting c k vs a rest s p others none)))
+  elsewhere_shown : (waiting : Waiting) (c : ℕ) (k : List (Frame Value)) (vs : List Value) (m : Mode) (control : List (Frame Value)) (activations : List (Activation Value)) (s : State) → m ≡ Running → control ≡ waiting_frame waiting c ∷ k → operands_of activations ≡ Names w.object ∷ vs → IsWatched w (places_of activations) s.heap → number_of w c ≡ None → LooksElsewhere w (of_parts m activations control s) → Shown types bodies w (seen_state w (of_parts m activations control s)) (next types bodies (of_parts m activations control s)) (next types bodies (seen_state w (of_parts m activations control s)))
+  elsewhere_shown waiting c k vs m control [] s running_is control_is operands_are p none = absurd p.formal
+  elsewhere_shown waiting c k vs m control (a ∷ rest) s running_is control_is operands_are p none =
+      subst (λ (mode : Mode). LooksElsewhere w (of_parts mode (a ∷ rest) control s) → Shown types bodies w (seen_state w (of_parts mode (a ∷ rest) control s)) (next types bodies (of_parts mode (a ∷ rest) control s)) (next types bodies (seen_state w (of_parts mode (a ∷ rest) control s)))) (sym running_is)
+      (subst (λ (l : List (Frame Value)). LooksElsewhere w (of_parts Running (a ∷ rest) l s) → Shown types bodies w (seen_state w (of_parts Running (a ∷ rest) l s)) (next types bodies (of_parts Running (a ∷ rest) l s)) (next types bodies (seen_state w (of_parts Running (a ∷ rest) l s)))) (sym control_is)
+      (subst (λ (us : List Value). LooksElsewhere w (of_parts Running (record a { operands = us } ∷ rest) (waiting_frame waiting c ∷ k) s) → Shown types bodies w (seen_state w (of_parts Running (record a { operands = us } ∷ rest) (waiting_frame waiting c ∷ k) s)) (next types bodies (of_parts Running (record a { operands = us } ∷ rest) (waiting_frame waiting c ∷ k) s)) (next types bodies (seen_state w (of_parts Running (record a { operands = us } ∷ rest) (waiting_frame waiting c ∷ k) s)))) (sym operands_are)
+      (elsewhere_by waiting c k vs a rest s p none)))
 
   -- The state that is yet to begin the statement.
   abbrev beginning : Waiting → (x : ℕ) → Spot → StmtsForm → List (Frame Value) → List Value → State → State
   beginning waiting x spot fs k vs s = standing w s (frame.Does (a_stmt (waiting_statement w.tracks waiting (variable_path x spot)) (seen_stmts w.tracks fs)) ∷ seen_control w k) vs
 
-  behind_by : (waiting : Waiting) (c x : ℕ) (spot : Spot) (fs : StmtsForm) (k : List (Frame Value)) (vs : List Value) (a : Activation Value) (rest : List (Activation Value)) (s : State) → IsWatched w a.places s.heap → AreOther w.object vs → number_of w c ≡ Some x → Shown types bodies w (beginning waiting x spot fs k vs (of_parts Running (record a { operands = Names w.object ∷ vs } ∷ rest) (waiting_frame waiting c ∷ frame.Does fs ∷ k) s)) (next types bodies (of_parts Running (record a { operands = Names w.object ∷ vs } ∷ rest) (waiting_frame waiting c ∷ frame.Does fs ∷ k) s)) (next types bodies (beginning waiting x spot fs k vs (of_parts Running (record a { operands = Names w.object ∷ vs } ∷ rest) (waiting_frame waiting c ∷ frame.Does fs ∷ k) s)))
+  behind_by : (waiting : Waiting) (c x : ℕ) (spot : Spot) (fs : StmtsForm) (k : List (Frame Value)) (vs : List Value) (a : Activation Value) (rest : List (Activation Value)) (s : State) → IsWatched w a.places s.heap → number_of w c ≡ Some x → LooksElsewhere w (of_parts Running (record a { operands = Names w.object ∷ vs } ∷ rest) (waiting_frame waiting c ∷ frame.Does fs ∷ k) s) → Shown types bodies w (beginning waiting x spot fs k vs (of_parts Running (record a { operands = Names w.object ∷ vs } ∷ rest) (waiting_frame waiting c ∷ frame.Does fs ∷ k) s)) (next types bodies (of_parts Running (record a { operands = Names w.object ∷ vs } ∷ rest) (waiting_frame waiting c ∷ frame.Does fs ∷ k) s)) (next types bodies (beginning waiting x spot fs k vs (of_parts Running (record a { operands = Names w.object ∷ vs } ∷ rest) (waiting_frame waiting c ∷ frame.Does fs ∷ k) s)))
   unfolding next
-  behind_by (assigning right) c x spot fs k vs a rest s p others is =
-      target_behind types bodies w (beginning (assigning right) x spot fs k vs (of_parts Running (record a { operands = Names w.object ∷ vs } ∷ rest) (frame.Targets c right ∷ frame.Does fs ∷ k) s)) c x right (record a { operands = vs }) rest (at (frame.Does fs ∷ k) s) is p others
-  behind_by getting c x spot fs k vs a rest s p others is =
-      receive_behind types bodies w (beginning getting x spot fs k vs (of_parts Running (record a { operands = Names w.object ∷ vs } ∷ rest) (frame.Receives c ∷ frame.Does fs ∷ k) s)) c x (record a { operands = vs }) rest (at (frame.Does fs ∷ k) s) is p others
-  behind_by (freeing access) c x spot fs k vs a rest s p others is =
-      free_behind types bodies w (beginning (freeing access) x spot fs k vs (of_parts Running (record a { operands = Names w.object ∷ vs } ∷ rest) (frame.FreesIn access c ∷ frame.Does fs ∷ k) s)) access c x (record a { operands = vs }) rest (at (frame.Does fs ∷ k) s) is p others
+  behind_by (assigning right) c x spot fs k vs a rest s p is looks =
+      target_behind types bodies w (beginning (assigning right) x spot fs k vs (of_parts Running (record a { operands = Names w.object ∷ vs } ∷ rest) (frame.Targets c right ∷ frame.Does fs ∷ k) s)) c x right (record a { operands = vs }) rest (at (frame.Does fs ∷ k) s) is p
+  behind_by getting c x spot fs k vs a rest s p is looks =
+      receive_behind types bodies w (beginning getting x spot fs k vs (of_parts Running (record a { operands = Names w.object ∷ vs } ∷ rest) (frame.Receives c ∷ frame.Does fs ∷ k) s)) c x (record a { operands = vs }) rest (at (frame.Does fs ∷ k) s) is p refl
+  behind_by (freeing access) c x spot fs k vs a rest s p is looks =
+      free_behind types bodies w (beginning (freeing access) x spot fs k vs (of_parts Running (record a { operands = Names w.object ∷ vs } ∷ rest) (frame.FreesIn access c ∷ frame.Does fs ∷ k) s)) access c x (record a { operands = vs }) rest (at (frame.Does fs ∷ k) s) is looks.1 p refl
 
-  behind_shown : (waiting : Waiting) (c x : ℕ) (spot : Spot) (fs : StmtsForm) (k : List (Frame Value)) (vs : List Value) (m : Mode) (control : List (Frame Value)) (activations : List (Activation Value)) (s : State) → m ≡ Running → control ≡ waiting_frame waiting c ∷ frame.Does fs ∷ k → operands_of activations ≡ Names w.object ∷ vs → IsWatched w (places_of activations) s.heap → AreOther w.object vs → number_of w c ≡ Some x → Shown types bodies w (beginning waiting x spot fs k vs (of_parts m activations control s)) (next types bodies (of_parts m activations control s)) (next types bodies (beginning waiting x spot fs k vs (of_parts m activations control s)))
-  behind_shown waiting c x spot fs k vs m control [] s running_is control_is operands_are p others is = absurd p.variables
-  behind_shown waiting c x spot fs k vs m control (a ∷ rest) s running_is control_is operands_are p others is =
-      subst (λ (mode : Mode). Shown types bodies w (beginning waiting x spot fs k vs (of_parts mode (a ∷ rest) control s)) (next types bodies (of_parts mode (a ∷ rest) control s)) (next types bodies (beginning waiting x spot fs k vs (of_parts mode (a ∷ rest) control s)))) (sym running_is)
-      (subst (λ (l : List (Frame Value)). Shown types bodies w (beginning waiting x spot fs k vs (of_parts Running (a ∷ rest) l s)) (next types bodies (of_parts Running (a ∷ rest) l s)) (next types bodies (beginning waiting x spot fs k vs (of_parts Running (a ∷ rest) l s)))) (sym control_is)
-      (subst (λ (us : List Value). Shown types bodies w (beginning waiting x spot fs k vs (of_parts Running (record a { operands = us } ∷ rest) (waiting_frame waiting c ∷ frame.Does fs ∷ k) s)) (next types bodies (of_parts Running (record a { operands = us } ∷ rest) (waiting_frame waiting c ∷ frame.Does fs ∷ k) s)) (next types bodies (beginning waiting x spot fs k vs (of_parts Running (record a { operands = us } ∷ rest) (waiting_frame waiting c ∷ frame.Does fs ∷ k) s)))) (sym operands_are)
-      (behind_by waiting c x spot fs k vs a rest s p others is)))
+  behind_shown : (waiting : Waiting) (c x : ℕ) (spot : Spot) (fs : StmtsForm) (k : List (Frame Value)) (vs : List Value) (m : Mode) (control : List (Frame Value)) (activations : List (Activation Value)) (s : State) → m ≡ Running → control ≡ waiting_frame waiting c ∷ frame.Does fs ∷ k → operands_of activations ≡ Names w.object ∷ vs → IsWatched w (places_of activations) s.heap → number_of w c ≡ Some x → LooksElsewhere w (of_parts m activations control s) → Shown types bodies w (beginning waiting x spot fs k vs (of_parts m activations control s)) (next types bodies (of_parts m activations control s)) (next types bodies (beginning waiting x spot fs k vs (of_parts m activations control s)))
+  behind_shown waiting c x spot fs k vs m control [] s running_is control_is operands_are p is = absurd p.formal
+  behind_shown waiting c x spot fs k vs m control (a ∷ rest) s running_is control_is operands_are p is =
+      subst (λ (mode : Mode). LooksElsewhere w (of_parts mode (a ∷ rest) control s) → Shown types bodies w (beginning waiting x spot fs k vs (of_parts mode (a ∷ rest) control s)) (next types bodies (of_parts mode (a ∷ rest) control s)) (next types bodies (beginning waiting x spot fs k vs (of_parts mode (a ∷ rest) control s)))) (sym running_is)
+      (subst (λ (l : List (Frame Value)). LooksElsewhere w (of_parts Running (a ∷ rest) l s) → Shown types bodies w (beginning waiting x spot fs k vs (of_parts Running (a ∷ rest) l s)) (next types bodies (of_parts Running (a ∷ rest) l s)) (next types bodies (beginning waiting x spot fs k vs (of_parts Running (a ∷ rest) l s)))) (sym control_is)
+      (subst (λ (us : List Value). LooksElsewhere w (of_parts Running (record a { operands = us } ∷ rest) (waiting_frame waiting c ∷ frame.Does fs ∷ k) s) → Shown types bodies w (beginning waiting x spot fs k vs (of_parts Running (record a { operands = us } ∷ rest) (waiting_frame waiting c ∷ frame.Does fs ∷ k) s)) (next types bodies (of_parts Running (record a { operands = us } ∷ rest) (waiting_frame waiting c ∷ frame.Does fs ∷ k) s)) (next types bodies (beginning waiting x spot fs k vs (of_parts Running (record a { operands = us } ∷ rest) (waiting_frame waiting c ∷ frame.Does fs ∷ k) s)))) (sym operands_are)
+      (behind_by waiting c x spot fs k vs a rest s p is)))
 
-  step_shown : (s t : State) → Seen types bodies w s t → IsWatched w (places s) s.heap → NextIsSimple w s.control s.masters → Shown types bodies w t (next types bodies s) (next types bodies t)
-  step_shown s t (plainly others is) p simple =
-      subst (λ (u : State). Shown types bodies w u (next types bodies s) (next types bodies u)) (sym is) (plainly_shown s.activations s p simple others)
-  step_shown s t (following c cs k running_is control_is others l vs stands goes_on) p simple =
-      subst (λ (n : Next). Shown types bodies w t (next types bodies s) n) (sym goes_on) (following_shown t c cs k s.mode s.control s running_is control_is p others)
-  step_shown s t (elsewhere waiting c k vs running_is control_is operands_are others none is) p simple =
+  step_shown : (s t : State) → Seen types bodies w s t → IsWatched w (places s) s.heap → LooksElsewhere w s → NextIsSimple w s.control s.masters → Shown types bodies w t (next types bodies s) (next types bodies t)
+  step_shown s t (plainly others is) p looks simple =
+      subst (λ (u : State). Shown types bodies w u (next types bodies s) (next types bodies u)) (sym is) (plainly_shown s.activations s p simple looks others)
+  step_shown s t (following c cs k running_is control_is l vs stands goes_on) p looks simple =
+      subst (λ (n : Next). Shown types bodies w t (next types bodies s) n) (sym goes_on) (following_shown t c cs k s.mode s.control s running_is control_is p looks)
+  step_shown s t (elsewhere waiting c k vs running_is control_is operands_are none is) p looks simple =
       subst (λ (u : State). Shown types bodies w u (next types bodies s) (next types bodies u)) (sym is)
-      (elsewhere_shown waiting c k vs s.mode s.control s.activations s running_is control_is operands_are p others none)
-  step_shown s t (behind waiting c x spot fs k vs running_is control_is operands_are others is stands) p simple =
+      (elsewhere_shown waiting c k vs s.mode s.control s.activations s running_is control_is operands_are p none looks)
+  step_shown s t (behind waiting c x spot fs k vs running_is control_is operands_are is stands) p looks simple =
       subst (λ (u : State). Shown types bodies w u (next types bodies s) (next types bodies u)) (sym stands)
-      (behind_shown waiting c x spot fs k vs s.mode s.control s.activations s running_is control_is operands_are p others is)
+      (behind_shown waiting c x spot fs k vs s.mode s.control s.activations s running_is control_is operands_are p is looks)
 
 -- The law.
 pub runs_as_variables : TrackedComponentsRunAsVariables
-runs_as_variables types bodies w s t seen p simple = step_shown types bodies w s t seen p simple
+runs_as_variables types bodies w s t seen p looks simple = step_shown types bodies w s t seen p looks simple
 
 -- Where the body comes to its end, the state stands plainly.
 not_waiting : (waiting : Waiting) (c : ℕ) (actuals : List ActualForm) (references : List Value) (k l : List (Frame Value)) → waiting_frame waiting c ∷ k ≡ frame.Returns actuals references ∷ l → ⊥
@@ -179,10 +178,10 @@ not_waiting (assigning right) c actuals references k l e = absurd (cc)
 not_waiting getting c actuals references k l e = absurd (cc)
 not_waiting (freeing access) c actuals references k l e = absurd (cc)
 
-pub plainly_at_end : (types : List TypeDefinition) (bodies : List BodyForm) (w : View) (s t : State) (actuals : List ActualForm) (references : List Value) (k : List (Frame Value)) → Seen types bodies w s t → s.control ≡ frame.Returns actuals references ∷ k → AreOther w.object (operands s) × (t ≡ seen_state w s)
-plainly_at_end types bodies w s t actuals references k (plainly others is) e = (others, is)
-plainly_at_end types bodies w s t actuals references k (following c cs l running_is control_is others m vs stands goes_on) e = absurd (cc)
-plainly_at_end types bodies w s t actuals references k (elsewhere waiting c l vs running_is control_is operands_are others none is) e =
+pub plainly_at_end : (types : List TypeDefinition) (bodies : List BodyForm) (w : View) (s t : State) (actuals : List ActualForm) (references : List Value) (k : List (Frame Value)) → Seen types bodies w s t → s.control ≡ frame.Returns actuals references ∷ k → t ≡ seen_state w s
+plainly_at_end types bodies w s t actuals references k (plainly others is) e = is
+plainly_at_end types bodies w s t actuals references k (following c cs l running_is control_is m vs stands goes_on) e = absurd (cc)
+plainly_at_end types bodies w s t actuals references k (elsewhere waiting c l vs running_is control_is operands_are none is) e =
     absurd (not_waiting waiting c actuals references l k (sym control_is ∙ e))
-plainly_at_end types bodies w s t actuals references k (behind waiting c x spot fs l vs running_is control_is operands_are others is stands) e =
+plainly_at_end types bodies w s t actuals references k (behind waiting c x spot fs l vs running_is control_is operands_are is stands) e =
     absurd (not_waiting waiting c actuals references (frame.Does fs ∷ l) k (sym control_is ∙ e))

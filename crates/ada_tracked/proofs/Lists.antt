@@ -1,16 +1,21 @@
 -- Lists of values, of which some components are tracked.
 
-use Rattle.std.proofs.Common.{◌≡◌, ◌≢◌, ℕ, zero, suc, ◌+◌, ◌<◌, Bool, true, false, List, [], ◌∷◌, ◌++◌, length, take, drop, Option, Some, None, refl, sym, ap, ◌∙◌, inl, inr, subst, arith, length-set}
+use Rattle.std.proofs.Common.{◌≡◌, ◌≢◌, ℕ, zero, suc, ◌+◌, ◌<◌, Bool, true, false, List, [], ◌∷◌, ◌++◌, length, Option, Some, None, refl, sym, ap, ◌∙◌, inl, inr, subst, arith, length-set}
 use Rattle.std.specs.Prelude.{◌==◌, if◌then◌else◌}
 use Rattle.std.specs.List.{slice_get, slice_set, slice_index_or}
 use Rattle.std.proofs.lemmas.Bool.Decides.{eqb_tells}
 use Rattle.std.proofs.lemmas.List.{set-set, set_comm, set-append_left, get_or-set_same, get_or-set_other}
 use Rattle.ada_meaning.specs.declared.state.Id.{Id}
+use Rattle.ada_meaning.specs.declared.state.Mode.{Mode}
+use Rattle.ada_meaning.specs.declared.state.Mode.TheVariants.{Running, Raising, Exiting, Returning}
 use Rattle.ada_meaning.specs.declared.state.Value.{Value}
 use Rattle.ada_meaning.specs.declared.state.Value.TheVariants.{Null}
-use Rattle.ada_meaning.specs.Step.{first_or, older, in_front, record_in}
+use Rattle.ada_meaning.specs.Frame.{Frame}
+use Rattle.ada_meaning.specs.Frame as frame
+use Rattle.ada_meaning.specs.Step.{first_or}
 use Rattle.ada_tracked.specs.Frames.{number_at, blank_values, values_at}
-use Rattle.ada_tracked.specs.Seen.{IsOther, AreOther, AreBelow, IsNoneOf, AreApart, refers, AreNoReferences}
+use Rattle.ada_tracked.specs.Seen.{IsOther, awaits_holder, HoldersAreOther, AreBelow, IsNoneOf, AreApart, refers, AreNoReferences}
+use Rattle.ada_tracked.specs.Looking.{LandsElsewhere}
 
 -- Numbers that are one, or not.
 pub same_number : (a : ℕ) → (a == a) ≡ true
@@ -84,48 +89,66 @@ pushed : {X : Type 0} (xs ys : List X) (x : X) → (xs ++ x ∷ []) ++ ys ≡ xs
 pushed [] ys x = refl
 pushed (y ∷ xs) ys x = ap (λ (us : List _). y ∷ us) (pushed xs ys x)
 
--- Values that do not lead to an object.
-pub other_first : (o : Id) (vs : List Value) → AreOther o vs → IsOther o (first_or Null vs)
-other_first o [] h = refl
-other_first o (v ∷ vs) h = h.0
+-- What waits for the object of a component has another one than this, where no jump is on its way: all that is asked is that this be so where something waits.
+holders_other : (o : Id) (k : List (Frame Value)) (vs : List Value) → (awaits_holder k ≡ true → IsOther o (first_or Null vs)) → HoldersAreOther o Running k vs
+holders_other o [] vs h = tt
+holders_other o (frame.Elaborates ds fs hs ∷ k) vs h = tt
+holders_other o (frame.Does fs ∷ k) vs h = tt
+holders_other o (frame.Decides fs branches ∷ k) vs h = tt
+holders_other o (frame.Repeats condition fs ∷ k) vs h = tt
+holders_other o (frame.Turns condition fs ∷ k) vs h = tt
+holders_other o (frame.Ranges x fs ∷ k) vs h = tt
+holders_other o (frame.Counts x value last fs ∷ k) vs h = tt
+holders_other o (frame.Exits ∷ k) vs h = tt
+holders_other o (frame.Handles hs ∷ k) vs h = tt
+holders_other o (frame.Closes ∷ k) vs h = tt
+holders_other o (frame.Leaves mode ∷ k) vs h = tt
+holders_other o (frame.Calls procedure b actuals ∷ k) vs h = tt
+holders_other o (frame.Returns actuals references ∷ k) vs h = tt
+holders_other o (frame.Evaluates right ∷ k) vs h = tt
+holders_other o (frame.Computes e ∷ k) vs h = tt
+holders_other o (frame.Follows cs ∷ k) vs h = tt
+holders_other o (frame.TestsNull equal ∷ k) vs h = tt
+holders_other o (frame.Refers p ∷ k) vs h = tt
+holders_other o (frame.RefersIn place record_type ∷ k) vs h = tt
+holders_other o (frame.Opens path ∷ k) vs h = tt
+holders_other o (frame.OpensIn c ∷ k) vs h = tt
+holders_other o (frame.Continues links ∷ k) vs h = tt
+holders_other o (frame.Applies operator ∷ k) vs h = tt
+holders_other o (frame.AppliesAlone operator ∷ k) vs h = tt
+holders_other o (frame.Fills items ∷ k) vs h = tt
+holders_other o (frame.Copies c record_type ∷ k) vs h = tt
+holders_other o (frame.Creates access count ∷ k) vs h = tt
+holders_other o (frame.Stores x ∷ k) vs h = tt
+holders_other o (frame.Targets c right ∷ k) vs h = h refl
+holders_other o (frame.StoresIn v c ∷ k) vs h = tt
+holders_other o (frame.TargetsRecord c record_type items ∷ k) vs h = tt
+holders_other o (frame.StoresRecord v c count ∷ k) vs h = tt
+holders_other o (frame.Assigns record_type ∷ k) vs h = tt
+holders_other o (frame.Receives c ∷ k) vs h = h refl
+holders_other o (frame.FreesIn access c ∷ k) vs h = h refl
+holders_other o (frame.Declares x ∷ k) vs h = tt
+holders_other o (frame.DeclaresRecord x record_type ∷ k) vs h = tt
+holders_other o (frame.Treats v treatment tasks ∷ k) vs h = tt
+holders_other o (frame.Awaits v by done of part tasks ∷ k) vs h = tt
+holders_other o (frame.Confines ∷ k) vs h = tt
+holders_other o (frame.Resumes mode ∷ k) vs h = tt
+holders_other o (frame.Writes ∷ k) vs h = tt
+holders_other o (frame.Ends v ∷ k) vs h = tt
+holders_other o (frame.GivesBack v cause pool ∷ k) vs h = tt
+holders_other o (frame.Clears x ∷ k) vs h = tt
+holders_other o (frame.ClearsIn v c ∷ k) vs h = tt
 
-pub other_older : (o : Id) (vs : List Value) → AreOther o vs → AreOther o (older vs)
-other_older o [] h = tt
-other_older o (v ∷ vs) h = h.1
+-- So it is where nothing waits, in each mode,
+pub clear : (o : Id) (m : Mode) (k : List (Frame Value)) (vs : List Value) → awaits_holder k ≡ false → HoldersAreOther o m k vs
+clear o Running k vs calm = holders_other o k vs (λ e. absurd (cc))
+clear o (Raising e) k vs calm = tt
+clear o Exiting k vs calm = tt
+clear o Returning k vs calm = tt
 
-pub other_drop : (o : Id) (n : ℕ) (vs : List Value) → AreOther o vs → AreOther o (drop n vs)
-other_drop o zero vs h = h
-other_drop o (suc n) [] h = tt
-other_drop o (suc n) (v ∷ vs) h = other_drop o n vs h.1
-
-pub other_take : (o : Id) (n : ℕ) (vs : List Value) → AreOther o vs → AreOther o (take n vs)
-other_take o zero vs h = tt
-other_take o (suc n) [] h = tt
-other_take o (suc n) (v ∷ vs) h = (h.0, other_take o n vs h.1)
-
--- Those of a record that lies in an object of such values.
-pub other_record : (o : Id) (values : List Value) (first count : ℕ) (vs : List Value) → AreOther o values → record_in values first count ≡ Some vs → AreOther o vs
-other_record o values first count vs h is =
-    let us = take count (drop first values) in
-    by_length (length us == count) us (other_take o count (drop first values) (other_drop o first values h)) is
-  where
-    by_length : (b : Bool) (us : List Value) → AreOther o us → (if b then Some us else None) ≡ Some vs → AreOther o vs
-    by_length true us others e = let one : us ≡ vs = cc in subst (λ (xs : List Value). AreOther o xs) one others
-    by_length false us others e = absurd (cc)
-
-pub other_in_front : (o : Id) (vs us : List Value) → AreOther o vs → AreOther o us → AreOther o (in_front vs us)
-other_in_front o [] us h g = g
-other_in_front o (v ∷ vs) us h g = other_in_front o vs (v ∷ us) h.1 (h.0, g)
-
-pub other_at : (o : Id) (vs : List Value) (i : ℕ) → AreOther o vs → IsOther o (slice_index_or vs i Null)
-other_at o [] i h = refl
-other_at o (v ∷ vs) zero h = h.0
-other_at o (v ∷ vs) (suc i) h = other_at o vs i h.1
-
-pub other_got : (o : Id) (vs : List Value) (i : ℕ) (v : Value) → AreOther o vs → slice_get vs i ≡ Some v → IsOther o v
-other_got o [] i v h is = absurd (cc)
-other_got o (u ∷ vs) zero v h is = let one : u ≡ v = cc in subst (λ (x : Value). IsOther o x) one h.0
-other_got o (u ∷ vs) (suc i) v h is = other_got o vs i v h.1 is
+-- and where another object is found for what waits.
+pub landed : (o : Id) (k : List (Frame Value)) (v : Value) (vs : List Value) → LandsElsewhere o (awaits_holder k) v → HoldersAreOther o Running k (v ∷ vs)
+landed o k v vs lands = holders_other o k (v ∷ vs) (λ e. subst (λ (awaits : Bool). LandsElsewhere o awaits v) e lands)
 
 -- A component that is none of those that are tracked.
 not_first : (b : Bool) (n : ℕ) (m : Option ℕ) → (if b then Some n else m) ≡ None → (b ≡ false) × (m ≡ None)

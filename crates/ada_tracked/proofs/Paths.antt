@@ -7,13 +7,12 @@ use Rattle.ada_program.specs.Form.{PathForm}
 use Rattle.ada_meaning.specs.declared.state.Place.{Place}
 use Rattle.ada_meaning.specs.declared.state.Value.{Value}
 use Rattle.ada_meaning.specs.declared.state.Value.TheVariants.{Null, Names, Scalar, Part}
-use Rattle.ada_meaning.specs.Named.{whole}
 use Rattle.ada_meaning.specs.declared.state.Id.{Id}
 use Rattle.ada_flow.specs.Tracking.{begins_with, behind_first, seen_from, seen}
 use Rattle.ada_tracked.specs.Frames.{View, shifted, number_at, number_of}
 use Rattle.ada_tracked.specs.Simple.{IsFrom, PathIsSimple}
-use Rattle.ada_tracked.specs.Seen.{IsOther, ArePlaces}
-use Rattle.ada_tracked.proofs.Lists.{apart_is, shifted_same, other_at}
+use Rattle.ada_tracked.specs.Seen.{FormalIsFirst}
+use Rattle.ada_tracked.proofs.Lists.{apart_is, shifted_same}
 
 -- A path of which the first component is that of a variable.
 abbrev pub moved : (x : ℕ) → PathForm → PathForm
@@ -78,21 +77,10 @@ pub within : (first x : ℕ) (cs : List ℕ) → IsFrom first x cs → x < first
 within first x [] simple = simple.1
 within first x (c ∷ cs) simple = simple
 
--- What variables hold.
-pub formal : (w : View) (vs : List Value) → ArePlaces w vs → (place : Place) × ((slice_index_or vs 0 Null ≡ Part w.object place) × (place.component ≡ w.base))
+-- What the first variable holds.
+pub formal : (w : View) (vs : List Value) → FormalIsFirst w vs → (place : Place) × ((slice_index_or vs 0 Null ≡ Part w.object place) × (place.component ≡ w.base))
 formal w [] h = absurd h
-formal w (Null ∷ vs) h = absurd h.0
-formal w (Names o ∷ vs) h = absurd h.0
-formal w (Scalar v ∷ vs) h = absurd h.0
-formal w (Part o place ∷ vs) h = (place, (ap (λ (p : Id). Part p place) h.0.0, h.0.1))
-
-pub variable : (w : View) (vs : List Value) (x : ℕ) → ArePlaces w vs → (0 < x) → IsOther w.object (slice_index_or vs x Null)
-variable w [] x h lt = absurd h
-variable w (v ∷ vs) zero h lt = absurd (omega (arith, lt))
-variable w (v ∷ vs) (suc x) h lt = other_at w.object vs x h.1
-
-pub whole_other : (o : Id) (v : Value) → IsOther o v → IsOther o (whole v)
-whole_other o Null h = refl
-whole_other o (Names p) h = h
-whole_other o (Scalar v) h = refl
-whole_other o (Part p place) h = h
+formal w (Null ∷ vs) h = absurd h
+formal w (Names o ∷ vs) h = absurd h
+formal w (Scalar v ∷ vs) h = absurd h
+formal w (Part o place ∷ vs) h = (place, (ap (λ (p : Id). Part p place) h.0, h.1))

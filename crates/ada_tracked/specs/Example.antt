@@ -1,29 +1,36 @@
 -- The premises are met.
 
-use Rattle.std.specs.Prelude.{◌≡◌, List, [], ◌∷◌}
+use Rattle.std.specs.Prelude.{◌≡◌, ℕ, List, [], ◌∷◌, Some}
+use Rattle.std.specs.List.{slice_get}
 use Rattle.ada_program.specs.declared.program.TypeDefinition.{TypeDefinition}
 use Rattle.ada_program.specs.ProgramForm.{BodyForm}
+use Rattle.ada_meaning.specs.declared.state.Id.{Id}
 use Rattle.ada_meaning.specs.declared.state.Value.{Value}
 use Rattle.ada_meaning.specs.declared.state.Value.TheVariants.{Null, Names}
 use Rattle.ada_meaning.specs.Event.{Followed, Quiet}
 use Rattle.ada_meaning.specs.Step.{moves, places}
-use Rattle.ada_meaning.specs.Named.{State, next}
+use Rattle.ada_meaning.specs.Named.{State, next, object_at}
+use Rattle.ada_meaning.specs.Records.{component_in}
 use Rattle.ada_tracked.specs.Frames.{View, tracked_values}
 use Rattle.ada_tracked.specs.Seen.{Seen, IsWatched}
+use Rattle.ada_tracked.specs.Looking.{LooksElsewhere}
 use Rattle.ada_tracked.specs.Law.{NextIsSimple}
 
 -- What the law takes of a state and of the one that stands for it.
 pub record IsMet (types : List TypeDefinition) (bodies : List BodyForm) (w : View) (s t : State) : Type 0 where
   pub seen : Seen types bodies w s t
   pub watched : IsWatched w (places s) s.heap
+  pub elsewhere : LooksElsewhere w s
   pub simple : NextIsSimple w s.control s.masters
 
--- A body reads from a tracked component: the real run follows its object, and the other one reads the variable, which holds the name of another object;
--- behind the step the premises are met again.
+-- A body reads from a tracked component, while a variable and a component of another object name the object that is watched: the real run follows that, and the
+-- other one reads the variable, which holds the name of another object; behind the step the premises are met again.
 pub record ReadsTracked (types : List TypeDefinition) (bodies : List BodyForm) (w : View) (s t after stands : State) : Type 0 where
   pub before : IsMet types bodies w s t
   pub behind : IsMet types bodies w after stands
   pub holds : (v : Value) × (tracked_values w s.heap ≡ v ∷ []) × (v ≡ Null → ⊥)
+  pub variable_names_it : (x : ℕ) × (slice_get (places s) x ≡ Some (Names w.object))
+  pub component_names_it : (o : Id) × (c : ℕ) × (component_in (object_at s.heap o) c ≡ Some (Names w.object))
   pub follows : next types bodies s ≡ moves (Followed (Names w.object)) after
   pub reads : next types bodies t ≡ moves Quiet stands
 

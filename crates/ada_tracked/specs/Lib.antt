@@ -8,6 +8,8 @@ pub mod Frames
 pub mod Simple
 -- which state stands for which
 pub mod Seen
+-- what the next step looks at
+pub mod Looking
 -- the law
 pub mod Law
 -- a body that meets the premises

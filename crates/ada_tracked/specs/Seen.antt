@@ -1,19 +1,19 @@
 -- Which state stands for which: the one that has a variable for each tracked component stands for the real one.
 
 use Rattle.std.specs.Prelude.{◌≡◌, ℕ, ◌<◌, Bool, true, false, ◌==◌, List, [], ◌∷◌, length, Some, None}
-use Rattle.std.specs.List.{slice_get}
 use Rattle.ada_text.specs.declared.spot.Spot.{Spot}
 use Rattle.ada_program.specs.declared.program.TypeDefinition.{TypeDefinition}
 use Rattle.ada_program.specs.Form.{PathForm, RightForm, StmtForm, assigns, frees, gets, StmtsForm, a_stmt}
 use Rattle.ada_program.specs.ProgramForm.{BodyForm}
 use Rattle.ada_meaning.specs.declared.state.Id.{Id}
+use Rattle.ada_meaning.specs.declared.state.Mode.{Mode}
 use Rattle.ada_meaning.specs.declared.state.Mode.TheVariants.{Running}
 use Rattle.ada_meaning.specs.declared.state.Stage.TheVariants.{Existing}
 use Rattle.ada_meaning.specs.declared.state.Value.{Value}
 use Rattle.ada_meaning.specs.declared.state.Value.TheVariants.{Null, Names, Scalar, Part}
 use Rattle.ada_meaning.specs.Frame.{Frame}
 use Rattle.ada_meaning.specs.Frame as frame
-use Rattle.ada_meaning.specs.Step.{operands}
+use Rattle.ada_meaning.specs.Step.{first_or, operands}
 use Rattle.ada_meaning.specs.Named.{Object, State, object_at, next}
 use Rattle.ada_flow.specs.Tracking.{Tracks}
 use Rattle.ada_tracked.specs.Forms.{seen_right, seen_stmts}
@@ -30,10 +30,20 @@ leads_to o (Part p place) = p.0 == o.0
 abbrev pub IsOther : Id → Value → Type 0
 IsOther o v = leads_to o v ≡ false
 
--- None of these values does.
-abbrev pub AreOther : Id → List Value → Type 0
-AreOther o [] = Unit {0}
-AreOther o (v ∷ vs) = IsOther o v × AreOther o vs
+-- What is left to do begins with a frame that waits for the object in which a component lies: to assign or read to it (5.2), or to free what it holds (13.11.2).
+abbrev pub awaits_holder : List (Frame Value) → Bool
+awaits_holder [] = false
+awaits_holder (frame.Targets c right ∷ k) = true
+awaits_holder (frame.Receives c ∷ k) = true
+awaits_holder (frame.FreesIn access c ∷ k) = true
+awaits_holder (f ∷ k) = false
+
+-- Where it does, and no jump is on its way, the newest operand leads to another object.
+abbrev pub HoldersAreOther : Id → Mode → List (Frame Value) → (operands : List Value) → Type 0
+HoldersAreOther o Running (frame.Targets c right ∷ k) vs = IsOther o (first_or Null vs)
+HoldersAreOther o Running (frame.Receives c ∷ k) vs = IsOther o (first_or Null vs)
+HoldersAreOther o Running (frame.FreesIn access c ∷ k) vs = IsOther o (first_or Null vs)
+HoldersAreOther o m k vs = Unit {0}
 
 -- The state that stands for a real one, but between the steps that the real one takes for one of its own: each path in its forms is as it is judged, its
 -- variables are the real ones and behind them what the tracked components hold, and these hold null.
@@ -65,21 +75,21 @@ variable_path x spot = record { root = x; of_record = false; selectors = []; spo
 -- Which state stands for a real one.
 pub data Seen (types : List TypeDefinition) (bodies : List BodyForm) (w : View) (s t : State) : Type 0 where
   -- between statements, and mostly within them
-  plainly : AreOther w.object (operands s) → t ≡ seen_state w s → Seen types bodies w s t
+  plainly : HoldersAreOther w.object s.mode s.control (operands s) → t ≡ seen_state w s → Seen types bodies w s t
   -- The real one has found the value of a tracked component, and what is named behind it is followed next. The other one does both in its next step: it does
   -- what a state does that has found the value.
   following :
       (c : ℕ) (cs : List ℕ) (k : List (Frame Value)) → s.mode ≡ Running → s.control ≡ frame.Follows (c ∷ cs) ∷ k
-      → AreOther w.object (operands s) → (l : List (Frame Value)) (vs : List Value) → t ≡ standing w s l vs
+      → (l : List (Frame Value)) (vs : List Value) → t ≡ standing w s l vs
       → next types bodies t ≡ next types bodies (seen_state w s) → Seen types bodies w s t
   -- a component of the object that is not tracked is about to be assigned, read to or freed
   elsewhere :
       (waiting : Waiting) (c : ℕ) (k : List (Frame Value)) (vs : List Value) → s.mode ≡ Running → s.control ≡ waiting_frame waiting c ∷ k
-      → operands s ≡ Names w.object ∷ vs → AreOther w.object vs → number_of w c ≡ None → t ≡ seen_state w s → Seen types bodies w s t
+      → operands s ≡ Names w.object ∷ vs → number_of w c ≡ None → t ≡ seen_state w s → Seen types bodies w s t
   -- A tracked one is about to be so. The other one is yet to begin the statement.
   behind :
       (waiting : Waiting) (c x : ℕ) (spot : Spot) (fs : StmtsForm) (k : List (Frame Value)) (vs : List Value) → s.mode ≡ Running
-      → s.control ≡ waiting_frame waiting c ∷ frame.Does fs ∷ k → operands s ≡ Names w.object ∷ vs → AreOther w.object vs → number_of w c ≡ Some x
+      → s.control ≡ waiting_frame waiting c ∷ frame.Does fs ∷ k → operands s ≡ Names w.object ∷ vs → number_of w c ≡ Some x
       → t ≡ standing w s (frame.Does (a_stmt (waiting_statement w.tracks waiting (variable_path x spot)) (seen_stmts w.tracks fs)) ∷ seen_control w k) vs
       → Seen types bodies w s t
 
@@ -110,20 +120,20 @@ abbrev pub AreNoReferences : List Value → Type 0
 AreNoReferences [] = Unit {0}
 AreNoReferences (v ∷ vs) = (refers v ≡ false) × AreNoReferences vs
 
--- The formal parameter refers to the record of the object, and no other variable leads to the object.
+-- The formal parameter refers to the record of the object.
 abbrev pub IsFormal : View → Value → Type 0
 IsFormal w Null = ⊥
 IsFormal w (Names o) = ⊥
 IsFormal w (Scalar v) = ⊥
 IsFormal w (Part o place) = (o ≡ w.object) × (place.component ≡ w.base)
 
--- So it is of these variables.
-abbrev pub ArePlaces : View → List Value → Type 0
-ArePlaces w [] = ⊥
-ArePlaces w (v ∷ vs) = IsFormal w v × AreOther w.object vs
+-- It is the first one of these variables.
+abbrev pub FormalIsFirst : View → List Value → Type 0
+FormalIsFirst w [] = ⊥
+FormalIsFirst w (v ∷ vs) = IsFormal w v
 
 -- What the law takes of what variables and the heap hold: the object exists and has the components that are tracked, which refer to no part of an object, and
--- nothing but the formal parameter leads to it.
+-- the formal parameter refers to its record. Other variables and components may name it.
 pub record IsWatched (w : View) (places : List Value) (heap : List Object) : Type 0 where
   pub object : Object
   pub at_object : object_at heap w.object ≡ Some object
@@ -131,6 +141,5 @@ pub record IsWatched (w : View) (places : List Value) (heap : List Object) : Typ
   pub below : AreBelow (length object.cell.values) (watched w)
   pub apart : AreApart (watched w)
   pub no_references : AreNoReferences (tracked_values w heap)
-  pub variables : ArePlaces w places
+  pub formal : FormalIsFirst w places
   pub count : length places ≡ w.tracks.first
-  pub components : (p : ℕ) (x : Object) → slice_get heap p ≡ Some x → AreOther w.object x.cell.values

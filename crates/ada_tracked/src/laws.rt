@@ -6,7 +6,8 @@ ghost use Rattle.ada_tracked.specs.Staying.{SimpleBodiesStaySimple};
 
 /// While the body of an operation runs whose formal parameter has tracked components (7.6), the state in which each of them is a
 /// variable, and in whose heap they hold null, takes the same steps: the same is asked of storage and told to it, the same is
-/// shown but that the object of the formal parameter is followed, and the run ends as it does.
+/// shown but that the object of the formal parameter is followed, and the run ends as it does. Variables and components may name
+/// that object; the body looks at it by the formal parameter alone.
 pub fn tracked_components_run_as_variables()
     ensures { TrackedComponentsRunAsVariables }
 {}

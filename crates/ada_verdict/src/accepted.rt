@@ -23,7 +23,9 @@ use crate::laws::accepted_sources_have_no_fault;
 use ada_circles::first_circle;
 use ada_effects::Implicit;
 use ada_flow::{FlowFault, flow};
-use ada_operations::laws::{ends_spare_newer, ends_spare_their_own, obeying_propagates_nothing};
+use ada_operations::laws::{
+    adjusts_spare_their_own, ends_spare_newer, ends_spare_their_own, obeying_propagates_nothing,
+};
 use ada_operations::operations;
 use ada_parser::parse;
 use ada_program::Program;
@@ -106,6 +108,7 @@ fn checked(alloc: Global, source: &[u8]) -> Result<Accepted, Verdict>
 {
     ends_spare_their_own();
     ends_spare_newer();
+    adjusts_spare_their_own();
     obeying_propagates_nothing();
     let program = program_of(alloc, source)?;
     judge(alloc, &program)?;

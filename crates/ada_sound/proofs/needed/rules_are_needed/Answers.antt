@@ -10,6 +10,7 @@ use Rattle.ada_sound.proofs.ExampleCalls as calls
 use Rattle.ada_sound.proofs.ExamplePools as pools
 use Rattle.ada_sound.proofs.ExampleOperations as operations
 use Rattle.ada_sound.proofs.ExampleNewer as newer
+use Rattle.ada_sound.proofs.ExampleCrossing as crossing
 use Rattle.ada_sound.proofs.needed.rules_are_needed.Goals as goal
 
 pub returns-clause-follows : goal.returns-clause-follows
@@ -149,6 +150,16 @@ returns-clause-frees_newer c = (
   newer.clearing_form,
   newer.clearing_uses_newer,
   newer.clears,
+)
+
+pub returns-clause-crosses : goal.returns-clause-crosses
+returns-clause-crosses c = (
+  crossing.crossing,
+  crossing.crossing_overrides,
+  crossing.crossing_bodies,
+  crossing.crossing_form,
+  crossing.crossing_follows,
+  crossing.crosses,
 )
 
 pub returns-clause-renews : goal.returns-clause-renews

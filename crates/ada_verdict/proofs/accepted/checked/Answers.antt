@@ -20,6 +20,7 @@ invariant_of-result c = (
     frees_own = c.in_ok-program.ensures.frees_own;
     spares_own = all_spare c.ends_spare_their_own.ensures (program_form c.in_ok-program.program) c.in_ok-judge.ensures.fine.1;
     spares_newer = c.ends_spare_newer.ensures (program_form c.in_ok-program.program) c.in_ok-judge.ensures.fine.1;
+    spares_adjusted = c.adjusts_spare_their_own.ensures (program_form c.in_ok-program.program) c.in_ok-judge.ensures.fine.1;
     lets_nothing_out = none_called (program_form c.in_ok-program.program)
         (c.obeying_propagates_nothing.ensures (program_form c.in_ok-program.program) c.in_ok-judge.ensures.fine.1);
     spares_holders = c.in_ok-judge.ensures.holders;
@@ -36,6 +37,7 @@ returns-clause-sound c = record {
   frees_own = c.in_ok-program.ensures.frees_own;
   spares_own = all_spare c.ends_spare_their_own.ensures (program_form c.in_ok-program.program) c.in_ok-judge.ensures.fine.1;
   spares_newer = c.ends_spare_newer.ensures (program_form c.in_ok-program.program) c.in_ok-judge.ensures.fine.1;
+  spares_adjusted = c.adjusts_spare_their_own.ensures (program_form c.in_ok-program.program) c.in_ok-judge.ensures.fine.1;
   lets_nothing_out = none_called (program_form c.in_ok-program.program)
       (c.obeying_propagates_nothing.ensures (program_form c.in_ok-program.program) c.in_ok-judge.ensures.fine.1);
   spares_holders = c.in_ok-judge.ensures.holders;
