@@ -1,10 +1,10 @@
 -- Each state of a run keeps that, where the program is well formed, its collections nest, and its operations nest anywhere.
 
-use Rattle.std.proofs.Common.{ℤ, List, ◌∷◌}
+use Rattle.std.proofs.Common.{ℤ, List, ◌∷◌, None}
 use Rattle.ada_program.specs.declared.program.Program.{Program}
 use Rattle.ada_program.specs.ProgramForm.{TypeForm, ProgramForm, program_form}
 use Rattle.ada_program.specs.WellFormed.{IsWellFormed}
-use Rattle.ada_program.specs.Nested.{Callees, callees_of, collected, CollectionsNest}
+use Rattle.ada_program.specs.Nested.{Callees, callees_of, CollectionsNest}
 use Rattle.ada_meaning.specs.Step.{halts, moves, tells, asks, picks}
 use Rattle.ada_meaning.specs.Named.{State, Next, next}
 use Rattle.ada_meaning.specs.Run.{Event, Choice, settled, grants, takes, Leads, Step, Run, here, there, first_state}
@@ -46,7 +46,7 @@ step_here program s after choice e operations scoped h step =
     let p = program_form program in
     let types = program.types.items in
     led p.types (callees_of p) (next types p.bodies s) choice e after
-    (next_good p.types (callees_of p) p.bodies scoped.bodies types (collected p.declarations) (calls_in p) s
+    (next_good p.types (callees_of p) p.bodies scoped.bodies types None (calls_in p) s
     (λ first of. operations_here (callees_of p) types of (operations first)) scoped.nested h) step
 
 run_here : (program : Program) (s last : State) (events : List Event) → OperationsNestAnywhere (program_form program) → Scoped (program_form program) s → HereIn (program_form program) s → Run program s events last → HereIn (program_form program) last

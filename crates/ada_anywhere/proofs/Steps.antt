@@ -372,21 +372,21 @@ module _ (types : List TypeForm) (callees : Callees) (bodies : List BodyForm) (n
   Jumps Exiting = Unit {0}
   Jumps Returning = Unit {0}
 
-  frame_stays : (calling : Bool) (ss vs : Scopes) (f : Frame Value) → FrameNests types callees calling ss vs f → is_departure f ≡ false
-  frame_stays calling ss vs (frame.Leaves mode) nest = absurd nest
-  frame_stays calling ss vs f nest = refl
+  frame_stays : (main : Option (List ℕ)) (calling : Bool) (ss vs : Scopes) (f : Frame Value) → FrameNests types callees main calling ss vs f → is_departure f ≡ false
+  frame_stays main calling ss vs (frame.Leaves mode) nest = absurd nest
+  frame_stays main calling ss vs f nest = refl
 
-  control_stays : (main : List ℕ) (calling : Bool) (ss vs : Scopes) (k : List (Frame Value)) → Nests types callees main calling ss vs k → LeavesNone k
+  control_stays : (main : Option (List ℕ)) (calling : Bool) (ss vs : Scopes) (k : List (Frame Value)) → Nests types callees main calling ss vs k → LeavesNone k
   control_stays main calling ss vs [] n = tt
-  control_stays main calling ss vs (f ∷ k) n = frame_stays calling ss vs f n.0
+  control_stays main calling ss vs (f ∷ k) n = frame_stays main calling ss vs f n.0
 
-  stays_in : (main : List ℕ) (calling : Bool) (s : State) → Jumps s.mode → Nested types callees main calling s → LeavesNone s.control
+  stays_in : (main : Option (List ℕ)) (calling : Bool) (s : State) → Jumps s.mode → Nested types callees main calling s → LeavesNone s.control
   stays_in main calling s jumps (standing ss w n) = control_stays main calling ss (scopes s.masters) s.control n
   stays_in main calling s jumps (beginning b) = absurd (subst Jumps b.runs jumps)
   stays_in main calling s jumps (parting ss w runs goes) = absurd (subst Jumps runs jumps)
   stays_in main calling s jumps (resting ss w none ends) = subst LeavesNone (sym ends) tt
 
-  module _ (definitions : List TypeDefinition) (main : List ℕ) (calling : Bool) where
+  module _ (definitions : List TypeDefinition) (main : Option (List ℕ)) (calling : Bool) where
     running_good : (k : List (Frame Value)) → (TreatsFirst k → OperationsHere callees definitions) → (s : State) → Anywhere types callees k s.masters → Good types callees (running_next named definitions bodies k s)
     running_good [] operations s h = tt
     running_good (f ∷ k) operations s h = frame_good definitions f operations (at k s) h.0 h.1

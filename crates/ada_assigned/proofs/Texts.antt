@@ -17,7 +17,7 @@ use Rattle.ada_program.specs.Controlled.{is_number, number_in, number_by, number
 use Rattle.ada_program.specs.Form.{RecordPathForm, StmtForm, skips, assigns, assigns_record, frees, gets, writes, writes_text, chooses, repeats, counts, exits, calls, returns, raises, encloses, StmtsForm, no_stmts, a_stmt, BranchesForm, otherwise, a_branch, HandlersForm, no_handlers, a_handler}
 use Rattle.ada_program.proofs.Shapes.{same_number}
 use Rattle.ada_program.specs.ProgramForm.{TypeForm, record_of, access_to, object_of, type_form, VariableForm, BodyForm, program_form, body_forms}
-use Rattle.ada_program.specs.WellFormed.{IsWellFormed, finalization_in, finalization_of, access_of, variable_kind, kind_held, root_kind, path_kind, part_count, parts_named, object_named, object_in, named_in, selectors_kind, is_found, place_from, has_parts_from, has_parts_at, has_record_at, object_components, record_components, is_record_path, record_fits, has_type, condition_fits, has_statement, choice_fits, declarations_fit, is_type, scalar_of, Profile, profile_of, statement_fits, stmts_fit, branches_fit, handlers_fit, body_fits, creates_from, created_in, variable_fits}
+use Rattle.ada_program.specs.WellFormed.{IsWellFormed, finalization_in, finalization_of, access_of, variable_kind, kind_held, root_kind, path_kind, part_count, parts_named, object_named, object_in, named_in, selectors_kind, is_found, place_from, is_part_of, has_parts_from, has_parts_at, has_record_at, object_components, record_components, is_record_path, record_fits, has_type, condition_fits, has_statement, choice_fits, declarations_fit, is_type, scalar_of, Profile, profile_of, statement_fits, stmts_fit, branches_fit, handlers_fit, body_fits, creates_from, created_in, variable_fits}
 use Rattle.ada_program.specs.declared.program.ScalarType.TheVariants.{Integer, Boolean}
 use Rattle.ada_parts.specs.Shape.{parts_of}
 use Rattle.ada_meaning.specs.declared.event.Birth.{Birth}
@@ -251,9 +251,10 @@ module _ (program : Program) (well : IsWellFormed (program_form program)) where
           let known = known_count target.record_type in
           let lies = and_right (has_record_at (object_components forms (access_of (path_kind forms operation.body.variables target.object))) target.first (record_components forms target.record_type))
           (has_parts_at forms target.record_type object target.first target.part) fits in
+          let found = (count == 0) || is_found forms (length forms) target.record_type (place_from object target.first target.part) in
+          let counted = has_parts_from count target.part (parts_named forms object) in
           let le = fits_from count target.part (parts_named forms object)
-          (and_left (has_parts_from count target.part (parts_named forms object))
-          ((count == 0) || is_found forms (length forms) target.record_type (place_from object target.first target.part)) lies) (omega (arith, some, known)) in
+          (and_left counted found (and_left (counted && found) (is_part_of forms target.record_type object) lies)) (omega (arith, some, known)) in
           let held = held_parts in
           omega (arith, le, held, known);
     }

@@ -15,7 +15,6 @@ pub mod Begun
 -- the marks of all deeds of a program
 pub mod Exact
 -- a set that grows round by round
-pub mod Growing
 -- what is known within so many calls of calls
 pub mod Within
 -- the table of what implicit calls may do

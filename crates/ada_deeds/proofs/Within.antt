@@ -14,7 +14,7 @@ use Rattle.ada_deeds.specs.declared.deed.Deed.{Deed}
 use Rattle.ada_deeds.specs.declared.deed.Operation.{Operation}
 use Rattle.ada_deeds.specs.declared.deed.Operation.TheVariants.{Initialize, Adjust, Finalize}
 use Rattle.ada_deeds.proofs.More.{callee_stays, least}
-use Rattle.ada_deeds.proofs.Growing.{Rounds, has_stopped}
+use Rattle.ada_program.proofs.Growing.{Rounds, has_stopped}
 use Rattle.ada_program.specs.ProgramForm.{ProgramForm}
 
 -- The callees of a program.

@@ -8,145 +8,25 @@ use Rattle.std.proofs.lemmas.List.{length-map}
 use Rattle.std.proofs.lemmas.List.Elements.{Contains-append_left, Contains-append_right, Contains-append_cases, Contains-push, Contains-push_cases}
 use Rattle.std.proofs.lemmas.List.FromFn.{length-range_with_len, get_or-range_with_len}
 use Rattle.std.proofs.lemmas.Option.{slice_get_past}
-use Rattle.ada_deeds.proofs.Growing.{Rounds, has_stopped}
 use Rattle.ada_program.specs.declared.program.PartKind.{PartKind}
 use Rattle.ada_program.specs.declared.program.PartKind.TheVariants as part
 use Rattle.ada_program.specs.ProgramForm.{PartForm, TypeForm, record_of, access_to, object_of}
 use Rattle.ada_program.specs.WellFormed.{components_in, designated_in, designated_type, is_record}
-use Rattle.ada_flow.specs.Parts.{is_record_among, has_component_among, has_part_within, has_part, HasPart, itself, within, DepthsAreEnough, designates_part, designate_part}
+use Rattle.ada_program.specs.Parts.{is_record_among, has_component_among, has_part_within, HasPart, itself, within}
+use Rattle.ada_program.proofs.Deep.{record_there, in_range, within_depths, has_within, part_behind}
+use Rattle.ada_flow.specs.Parts.{has_part, DepthsAreEnough, designates_part, designate_part}
 use Rattle.ada_flow.specs.Reached.{type_within, component_types, types_within, IsDesignated}
 use Rattle.ada_reach.specs.Graph.{HasEdge, Reaches, stays, goes, IsReached}
 use Rattle.ada_reach.specs.View.{IsMarked}
 use Rattle.ada_reach.proofs.Reaching.{edge_first}
 
--- Components of some types.
-
-record_stays : (some others : ℕ → Bool) → ((t : ℕ) → some t ≡ true → others t ≡ true) → (kind : PartKind) →
-    is_record_among some kind ≡ true → is_record_among others kind ≡ true
-record_stays some others more (part.Elementary kind) h = absurd (cc h)
-record_stays some others more (part.Record t) h = more t.0 h
-record_stays some others more part.Parent h = absurd (cc h)
-
-components_stay : (some others : ℕ → Bool) → ((t : ℕ) → some t ≡ true → others t ≡ true) → (ps : List PartForm) →
-    list_any (λ c. is_record_among some c.kind) ps ≡ true → list_any (λ c. is_record_among others c.kind) ps ≡ true
-components_stay some others more [] h = absurd (cc h)
-components_stay some others more (p ∷ ps) h = elim (or_cases (is_record_among some p.kind) (list_any (λ c. is_record_among some c.kind) ps) h) [
-  | inl here ↦ or_left (is_record_among others p.kind) (list_any (λ c. is_record_among others c.kind) ps) (record_stays some others more p.kind here)
-  | inr behind ↦ or_right (is_record_among others p.kind) (list_any (λ c. is_record_among others c.kind) ps) (components_stay some others more ps behind)
-]
-
--- Where there is one of some types, there is one of more.
-component_stays : (some others : ℕ → Bool) → ((t : ℕ) → some t ≡ true → others t ≡ true) → (o : Option TypeForm) →
-    has_component_among some o ≡ true → has_component_among others o ≡ true
-component_stays some others more None h = absurd (cc h)
-component_stays some others more (Some (record_of name parts components finalization)) h = components_stay some others more parts h
-component_stays some others more (Some (access_to name designated pool)) h = absurd (cc h)
-component_stays some others more (Some (object_of record_type)) h = absurd (cc h)
-
-record_found : (among : ℕ → Bool) (kind : PartKind) → is_record_among among kind ≡ true →
-    (t : ℕ) × (among t ≡ true) × (is_record_among (λ u. u == t) kind ≡ true)
-record_found among (part.Elementary kind) h = absurd (cc h)
-record_found among (part.Record t) h = (t.0, h, eq-eqb t.0 t.0 refl)
-record_found among part.Parent h = absurd (cc h)
-
-found_among : (among : ℕ → Bool) (ps : List PartForm) → list_any (λ c. is_record_among among c.kind) ps ≡ true →
-    (t : ℕ) × (among t ≡ true) × (list_any (λ c. is_record_among (λ u. u == t) c.kind) ps ≡ true)
-found_among among [] h = absurd (cc h)
-found_among among (p ∷ ps) h = elim (or_cases (is_record_among among p.kind) (list_any (λ c. is_record_among among c.kind) ps) h) [
-  | inl here ↦
-      let (t, known, is) = record_found among p.kind here in
-      (t, known, or_left (is_record_among (λ u. u == t) p.kind) (list_any (λ c. is_record_among (λ u. u == t) c.kind) ps) is)
-  | inr behind ↦
-      let (t, known, is) = found_among among ps behind in
-      (t, known, or_right (is_record_among (λ u. u == t) p.kind) (list_any (λ c. is_record_among (λ u. u == t) c.kind) ps) is)
-]
-
--- And it is of one of them.
-component_found : (among : ℕ → Bool) (o : Option TypeForm) → has_component_among among o ≡ true →
-    (t : ℕ) × (among t ≡ true) × (has_component_among (λ u. u == t) o ≡ true)
-component_found among None h = absurd (cc h)
-component_found among (Some (record_of name parts components finalization)) h = found_among among parts h
-component_found among (Some (access_to name designated pool)) h = absurd (cc h)
-component_found among (Some (object_of record_type)) h = absurd (cc h)
-
 -- Types that are there.
-
-whole_there : (types : List TypeForm) (among : ℕ → Bool) (w : ℕ) → has_component_among among (slice_get types w) ≡ true → w < length types
-whole_there types among w h = elim (cases_lt w (length types)) [
-  | inl less ↦ less
-  | inr past ↦ absurd (cc (sym (ap (has_component_among among) (slice_get_past types w past)) ∙ h))
-]
-
-record_there : (types : List TypeForm) (r : ℕ) → is_record types r ≡ true → r < length types
-record_there types r h = elim (cases_lt r (length types)) [
-  | inl less ↦ less
-  | inr past ↦ absurd (cc (sym (ap (λ (o : Option TypeForm). is_some (components_in o)) (slice_get_past types r past)) ∙ h))
-]
 
 access_there : (types : List TypeForm) (t w : ℕ) → designated_type types t ≡ Some w → t < length types
 access_there types t w is = elim (cases_lt t (length types)) [
   | inl less ↦ less
   | inr past ↦ absurd (cc (sym (ap designated_in (slice_get_past types t past)) ∙ is))
 ]
-
-in_range : (n q : ℕ) → q < n → Contains (range_with_len 0 n) q
-in_range n q lt = let l = length-range_with_len 0 n in (q, omega (arith, l, lt), get_or-range_with_len 0 n q q lt ∙ omega arith)
-
--- Depths.
-
-module _ (types : List TypeForm) (r : ℕ) where
-  deeper : (n w : ℕ) → has_part_within types n r w ≡ true → has_part_within types (suc n) r w ≡ true
-  deeper zero w h = or_left (w == r) (has_component_among (has_part_within types zero r) (slice_get types w)) h
-  deeper (suc n) w h = elim (or_cases (w == r) (has_component_among (has_part_within types n r) (slice_get types w)) h) [
-    | inl is ↦ or_left (w == r) (has_component_among (has_part_within types (suc n) r) (slice_get types w)) is
-    | inr has ↦
-        or_right (w == r) (has_component_among (has_part_within types (suc n) r) (slice_get types w))
-        (component_stays (has_part_within types n r) (has_part_within types (suc n) r) (deeper n) (slice_get types w) has)
-  ]
-
-  stops : (n : ℕ) → ((w : ℕ) → has_part_within types (suc n) r w ≡ true → has_part_within types n r w ≡ true) →
-      (w : ℕ) → has_part_within types (suc (suc n)) r w ≡ true → has_part_within types (suc n) r w ≡ true
-  stops n stopped w h = elim (or_cases (w == r) (has_component_among (has_part_within types (suc n) r) (slice_get types w)) h) [
-    | inl is ↦ or_left (w == r) (has_component_among (has_part_within types n r) (slice_get types w)) is
-    | inr has ↦
-        or_right (w == r) (has_component_among (has_part_within types n r) (slice_get types w))
-        (component_stays (has_part_within types (suc n) r) (has_part_within types n r) stopped (slice_get types w) has)
-  ]
-
-  listed : r < length types → (n w : ℕ) → has_part_within types (suc n) r w ≡ true → Contains (range_with_len 0 (length types)) w
-  listed there n w h = elim (or_cases (w == r) (has_component_among (has_part_within types n r) (slice_get types w)) h) [
-    | inl is ↦ in_range (length types) w (let same : w ≡ r = eqb-true w r is in omega (arith, same, there))
-    | inr has ↦ in_range (length types) w (whole_there types (has_part_within types n r) w has)
-  ]
-
-  depths : r < length types → Rounds (range_with_len 0 (length types)) (λ n. has_part_within types n r)
-  depths there = record { grows = deeper; listed = listed there; stops = stops }
-
-  nothing_deeper : r < length types → (w : ℕ) → has_part_within types (suc (length types)) r w ≡ true → has_part_within types (length types) r w ≡ true
-  nothing_deeper there w h =
-      let n = length-range_with_len 0 (length types) in
-      let stopped = has_stopped (range_with_len 0 (length types)) (λ n. has_part_within types n r) (depths there) w in
-      sym (ap (λ (m : ℕ). has_part_within types m r w) n) ∙ stopped (ap (λ (m : ℕ). has_part_within types (suc m) r w) n ∙ h)
-
-  itself_within : (n : ℕ) → has_part_within types n r r ≡ true
-  itself_within zero = eq-eqb r r refl
-  itself_within (suc n) = or_left (r == r) (has_component_among (has_part_within types n r) (slice_get types r)) (eq-eqb r r refl)
-
-  within_depths : r < length types → (w : ℕ) → HasPart types r w → has_part_within types (length types) r w ≡ true
-  within_depths there w itself = itself_within (length types)
-  within_depths there w (within {component} {whole} h e) =
-      let known = within_depths there component h in
-      nothing_deeper there whole
-      (or_right (whole == r) (has_component_among (has_part_within types (length types) r) (slice_get types whole))
-      (component_stays (λ t. t == component) (has_part_within types (length types) r)
-      (λ t is. subst (λ (x : ℕ). has_part_within types (length types) r x ≡ true) (sym (eqb-true t component is)) known) (slice_get types whole) e))
-
-  has_within : (n w : ℕ) → has_part_within types n r w ≡ true → HasPart types r w
-  has_within zero w h = subst (λ (x : ℕ). HasPart types r x) (sym (eqb-true w r h)) itself
-  has_within (suc n) w h = elim (or_cases (w == r) (has_component_among (has_part_within types n r) (slice_get types w)) h) [
-    | inl is ↦ subst (λ (x : ℕ). HasPart types r x) (sym (eqb-true w r is)) itself
-    | inr has ↦ let (t, known, is) = component_found (has_part_within types n r) (slice_get types w) has in within (has_within n t known) is
-  ]
 
 pub depths_are_enough : DepthsAreEnough
 depths_are_enough types r w is = (
@@ -212,10 +92,6 @@ reaches_part : (types : List TypeForm) (r w : ℕ) → r < length types → HasP
 reaches_part types r w lt itself = stays (omega (arith, lt, length-map types types_within))
 reaches_part types r w lt (within {component} {whole} h e) =
     edge_first (map types_within types) whole r (inr (component, has_edge types whole component e, reaches_part types r component lt h))
-
-part_behind : (types : List TypeForm) (b c w : ℕ) → HasPart types b w → has_component_among (λ u. u == c) (slice_get types b) ≡ true → HasPart types c w
-part_behind types b c w itself e = within itself e
-part_behind types b c w (within {component} {whole} h f) e = within (part_behind types b c component h e) f
 
 part_reached : (types : List TypeForm) (w r : ℕ) → Reaches (map types_within types) w r → HasPart types r w
 part_reached types w n (stays is) = itself

@@ -15,12 +15,13 @@ use Rattle.ada_program.specs.declared.program.Program.{Program}
 use Rattle.ada_program.specs.declared.program.VariableKind.{VariableKind}
 use Rattle.ada_program.specs.declared.program.VariableKind.TheVariants as variable
 use Rattle.ada_program.specs.Form.{ActualForm, in_value, in_null, in_access, in_record, in_out_path, in_out_access, in_out_component, in_out_record, PathForm, RecordPathForm, ExpressionForm, integer, boolean, reads, is_null, applied_to, chained, LinksForm, no_more_links, a_link, ItemForm, null_item, item_of_path, item_of_value, item_of_record, RightForm, nothing, value_of, allocates, allocates_default, computes, StmtForm, skips, assigns, assigns_record, frees, gets, writes, writes_text, chooses, repeats, counts, exits, calls, returns, raises, encloses, StmtsForm, no_stmts, a_stmt, BranchesForm, otherwise, a_branch, HandlersForm, no_handlers, a_handler, DeclarationForm, creates_pool, collects, declares, declares_record}
+use Rattle.ada_program.specs.Parts.{has_component_among}
 use Rattle.ada_program.specs.ProgramForm.{TypeForm, record_of, access_to, object_of, type_form, VariableForm, variable_form, BodyForm, nowhere, ProgramForm, main_body, program_form}
 use Rattle.ada_program.specs.WellFormed.{record_components, object_in, named_in, is_inherited, access_of, variable_kind, selected_kind, path_access, is_this, is_borrower, names_borrower}
 use Rattle.ada_effects.specs.Effects.{expression_raises, path_raises, record_path_raises, actuals_raise, items_raise, initial_raises, initial_starts, initial_frees, assignment_frees, endings_free, Effect, Implicit, Effects, call_raises, call_frees, passes, effect_of, known_of}
 use Rattle.ada_deeds.specs.Implicit.{implicit_of}
 use Rattle.ada_flow.specs.Aliases.{is_alias}
-use Rattle.ada_flow.specs.Parts.{designate_part, has_component_among}
+use Rattle.ada_flow.specs.Parts.{designate_part}
 use Rattle.ada_flow.specs.Tracking.{Tracks, seen, is_tracked, is_whole_formal, tracked_numbers, with_tracked, judged, access_numbers, no_tracks, tracks_behind}
 use Rattle.ada_flow.specs.declared.rule.Hold.{Hold}
 use Rattle.ada_flow.specs.declared.rule.Hold.TheVariants.{Null, Kept, Own, Alias, Lost}

@@ -4,7 +4,7 @@
 ghost use Rattle.std.specs.Prelude.{◌≡◌, map, option_copied};
 ghost use Rattle.std.specs.List.{list_any, slice_get};
 ghost use Rattle.ada_flow.specs.Flow as rules;
-ghost use Rattle.ada_flow.specs.Parts.{has_component_among, is_record_among};
+ghost use Rattle.ada_program.specs.Parts.{has_component_among, is_record_among};
 ghost use Rattle.ada_flow.specs.Told.{broken};
 ghost use Rattle.ada_program.specs.Form.{item_form};
 ghost use Rattle.ada_program.specs.ProgramForm.{part_form, type_form};

@@ -177,7 +177,7 @@ module _ (types : List TypeForm) (i : Item) (t c : ℕ) (target : TypeNo) (own :
 pub records_outlived : (p : ProgramForm) (s : State) → Outlives p s → AreRecordsOutlived p.types s
 records_outlived p s h i t c target at own names = open_in target.0 (lasting i.number s.masters) (open_at p.types i t c target own names s.masters at h.keeps.0)
 
-layers_of : (types : List TypeForm) (callees : Callees) (main : List ℕ) (calling : Bool) (s : State) → Nested types callees main calling s → AllLayered s.masters
+layers_of : (types : List TypeForm) (callees : Callees) (main : Option (List ℕ)) (calling : Bool) (s : State) → Nested types callees main calling s → AllLayered s.masters
 layers_of types callees main calling s (standing ss w n) = w.layered
 layers_of types callees main calling s (beginning b) = subst AllLayered (sym b.masters) (bare_layered b.m.items b.growing.bare, b.growing.layered)
 layers_of types callees main calling s (parting ss w runs goes) = w.layered

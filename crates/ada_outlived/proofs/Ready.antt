@@ -1,6 +1,6 @@
 -- What the state of a run says of its next step: what a record object needs that is created now is open now.
 
-use Rattle.std.proofs.Common.{◌≡◌, ℕ, zero, suc, ◌+◌, ◌≤◌, Bool, true, false, List, [], ◌∷◌, ◌++◌, arith, refl, sym, ap, ◌∙◌, subst, inl, inr}
+use Rattle.std.proofs.Common.{◌≡◌, ℕ, zero, suc, Some, ◌+◌, ◌≤◌, Bool, true, false, List, [], ◌∷◌, ◌++◌, arith, refl, sym, ap, ◌∙◌, subst, inl, inr}
 use Rattle.std.specs.List.{list_all}
 use Rattle.ada_program.specs.Form.{DeclarationForm, creates_pool, collects, declares, declares_record}
 use Rattle.ada_program.specs.ProgramForm.{TypeForm, ProgramForm}
@@ -16,7 +16,7 @@ use Rattle.ada_scopes.proofs.Counts.{times, times_append, open_within, opened, S
 use Rattle.ada_scopes.proofs.Layers.{AllLayered}
 use Rattle.ada_scopes.proofs.Texts.{RecordsNest}
 use Rattle.ada_scopes.proofs.Control.{Alike, OwnsAll, Nests, NestsOutside, Goes, Covers, covers_older, Growing, Begins, Nested, standing, beginning, parting, resting}
-use Rattle.ada_scopes.proofs.Runs.{calls_in, Scoped}
+use Rattle.ada_scopes.proofs.Runs.{calls_in, ScopedSo}
 use Rattle.ada_outlived.proofs.Records.{CanOwn}
 use Rattle.ada_outlived.proofs.Control.{inside, Anywhere, Free, PartReady, FrameReady}
 
@@ -27,10 +27,10 @@ nothing_opened t (us ∷ ss) [] covers is le = covers
 nothing_opened t (us ∷ ss) (ws ∷ vs) covers is le = cc is
 
 -- What the innermost master has opened, which has lost nothing, or an outer one.
-owned_there : (t : ℕ) (ss vs : Scopes) → OwnsAll ss vs → (1 ≤ times t (all_of (older ss)) → 1 ≤ times t (all_of (older vs))) → 1 ≤ times t (all_of ss) → 1 ≤ times t (all_of vs)
-owned_there t [] vs owns later le = absurd owns
-owned_there t (us ∷ ss) [] owns later le = absurd owns
-owned_there t (us ∷ ss) (ws ∷ vs) owns later le = split (times t us) refl
+owned_there : (main : List ℕ) (t : ℕ) (ss vs : Scopes) → OwnsAll (Some main) ss vs → (1 ≤ times t (all_of (older ss)) → 1 ≤ times t (all_of (older vs))) → 1 ≤ times t (all_of ss) → 1 ≤ times t (all_of vs)
+owned_there main t [] vs owns later le = absurd owns
+owned_there main t (us ∷ ss) [] owns later le = absurd owns
+owned_there main t (us ∷ ss) (ws ∷ vs) owns later le = split (times t us) refl
   where
     split : (n : ℕ) → times t us ≡ n → 1 ≤ times t (ws ++ all_of vs)
     split zero none =
@@ -58,19 +58,19 @@ all_objects (declares_record x t initial ∷ ds) is = all_objects ds is
 
 module _ (types : List TypeForm) (callees : Callees) (main : List ℕ) (calling : Bool) where
   -- Behind a master too, where nothing is left to do there.
-  outside_there : (there : List ℕ) (t : ℕ) (ss vs : Scopes) (k : List (Frame Value)) → Covers ss vs → (Nests types callees main calling ss vs k → 1 ≤ times t (all_of vs)) → NestsOutside types callees main calling there ss vs k → 1 ≤ times t (all_of ss) → 1 ≤ times t (all_of vs)
+  outside_there : (there : List ℕ) (t : ℕ) (ss vs : Scopes) (k : List (Frame Value)) → Covers ss vs → (Nests types callees (Some main) calling ss vs k → 1 ≤ times t (all_of vs)) → NestsOutside types callees (Some main) calling there ss vs k → 1 ≤ times t (all_of ss) → 1 ≤ times t (all_of vs)
   outside_there there t ss vs k covers nests (inl none) le = absurd (nothing_opened t ss vs covers none.1 le)
   outside_there there t ss vs k covers nests (inr nest) le = nests nest
 
   -- Where no body of a Finalize waits, masters that are not being left have all that they have opened.
-  all_there : (t : ℕ) (ss vs : Scopes) (k : List (Frame Value)) → inside k ≡ false → Covers ss vs → Nests types callees main calling ss vs k → 1 ≤ times t (all_of ss) → 1 ≤ times t (all_of vs)
+  all_there : (t : ℕ) (ss vs : Scopes) (k : List (Frame Value)) → inside k ≡ false → Covers ss vs → Nests types callees (Some main) calling ss vs k → 1 ≤ times t (all_of ss) → 1 ≤ times t (all_of vs)
   all_there t ss vs [] none covers n le = absurd n
   all_there t ss vs (frame.Elaborates ds fs hs ∷ k) none covers n le =
-      owned_there t ss vs n.0.2
+      owned_there main t ss vs n.0.2
       (λ more. outside_there (all_of ss) t (older ss) (older vs) k (covers_older ss vs covers)
       (λ nest. all_there t (older ss) (older vs) k none (covers_older ss vs covers) nest more) n.1 more) le
   all_there t ss vs (frame.Closes ∷ k) none covers n le =
-      owned_there t ss vs n.0
+      owned_there main t ss vs n.0
       (λ more. outside_there (all_of ss) t (older ss) (older vs) k (covers_older ss vs covers)
       (λ nest. all_there t (older ss) (older vs) k none (covers_older ss vs covers) nest more) n.1 more) le
   all_there t ss vs (frame.Leaves mode ∷ k) none covers n le = absurd n.0
@@ -78,13 +78,13 @@ module _ (types : List TypeForm) (callees : Callees) (main : List ℕ) (calling 
   all_there t ss vs (f ∷ k) none covers n le = all_there t ss vs k none covers n.1 le
 
   -- What a record object needs was open where it was written: it is open now, or it needs nothing.
-  can_by : (t : ℕ) (ss : Scopes) (ms : List Master) (k : List (Frame Value)) (around : List ℕ) → Alike around (all_of ss) → are_open around (reached_components types t) ≡ true → Anywhere (inside k) (λ us. are_open us (reached_components types t) ≡ true) → Covers ss (scopes ms) → Nests types callees main calling ss (scopes ms) k → (within : Bool) → inside k ≡ within → CanOwn types t ms
+  can_by : (t : ℕ) (ss : Scopes) (ms : List Master) (k : List (Frame Value)) (around : List ℕ) → Alike around (all_of ss) → are_open around (reached_components types t) ≡ true → Anywhere (inside k) (λ us. are_open us (reached_components types t) ≡ true) → Covers ss (scopes ms) → Nests types callees (Some main) calling ss (scopes ms) k → (within : Bool) → inside k ≡ within → CanOwn types t ms
   can_by t ss ms k around alike opens free covers n true is = free is (all_of (scopes ms))
   can_by t ss ms k around alike opens free covers n false is =
       open_within around (all_of (scopes ms)) (reached_components types t)
       (λ u le. all_there u ss (scopes ms) k is covers n (let same = alike u in omega (arith, same, le))) opens
 
-  ready_part : (ss : Scopes) (ms : List Master) (k : List (Frame Value)) (around : List ℕ) (ds : List DeclarationForm) → Alike around (all_of ss) → RecordsNest types around ds → Anywhere (inside k) (λ us. RecordsNest types us ds) → Covers ss (scopes ms) → Nests types callees main calling ss (scopes ms) k → PartReady types ms ds
+  ready_part : (ss : Scopes) (ms : List Master) (k : List (Frame Value)) (around : List ℕ) (ds : List DeclarationForm) → Alike around (all_of ss) → RecordsNest types around ds → Anywhere (inside k) (λ us. RecordsNest types us ds) → Covers ss (scopes ms) → Nests types callees (Some main) calling ss (scopes ms) k → PartReady types ms ds
   ready_part ss ms k around [] alike nest free covers n = tt
   ready_part ss ms k around (creates_pool pool ∷ ds) alike nest free covers n = tt
   ready_part ss ms k around (collects access ∷ ds) alike nest free covers n = tt
@@ -92,7 +92,7 @@ module _ (types : List TypeForm) (callees : Callees) (main : List ℕ) (calling 
   ready_part ss ms k around (declares_record x t initial ∷ ds) alike nest free covers n =
       can_by t ss ms k around alike nest.1 (λ within us. (free within us).1) covers n (inside k) refl
 
-  ready_standing : (ss : Scopes) (ms : List Master) (f : Frame Value) (k : List (Frame Value)) → Covers ss (scopes ms) → Nests types callees main calling ss (scopes ms) (f ∷ k) → Free types callees (f ∷ k) → FrameReady types ms f
+  ready_standing : (ss : Scopes) (ms : List Master) (f : Frame Value) (k : List (Frame Value)) → Covers ss (scopes ms) → Nests types callees (Some main) calling ss (scopes ms) (f ∷ k) → Free types callees (f ∷ k) → FrameReady types ms f
   ready_standing ss ms (frame.Elaborates ds fs hs) k covers n free =
       ready_part ss ms (frame.Elaborates ds fs hs ∷ k) n.0.1.0 ds n.0.1.1 n.0.1.2.2 (λ within us. (free.0 within us).2) covers n
   ready_standing ss ms (frame.DeclaresRecord x t) k covers n free =
@@ -100,14 +100,14 @@ module _ (types : List TypeForm) (callees : Callees) (main : List ℕ) (calling 
   ready_standing ss ms (frame.Leaves mode) k covers n free = absurd n.0
   ready_standing ss ms f k covers n free = tt
 
-  ready_parting : (ss : Scopes) (ms : List Master) (f : Frame Value) (k : List (Frame Value)) → AllLayered ms → Goes types callees main calling ss (scopes ms) (f ∷ k) → FrameReady types ms f
+  ready_parting : (ss : Scopes) (ms : List Master) (f : Frame Value) (k : List (Frame Value)) → AllLayered ms → Goes types callees (Some main) calling ss (scopes ms) (f ∷ k) → FrameReady types ms f
   ready_parting ss ms (frame.Leaves mode) k layered goes = layered
   ready_parting ss ms (frame.Elaborates ds fs hs) k layered goes = absurd goes
   ready_parting ss ms (frame.DeclaresRecord x t) k layered goes = absurd goes
   ready_parting ss ms f k layered goes = tt
 
   -- A part that begins comes to its first object.
-  begins_by : (ss : Scopes) (m : Master) (rest : List Master) (heap : List Object) (x t : ℕ) (ds all : List DeclarationForm) (there : List ℕ) (k : List (Frame Value)) → collected all ≡ [] → Growing types ss m rest heap all there → are_open there (reached_components types t) ≡ true → Anywhere (inside k) (λ us. are_open us (reached_components types t) ≡ true) → NestsOutside types callees main calling there ss (scopes rest) k → (within : Bool) → inside k ≡ within → CanOwn types t (m ∷ rest)
+  begins_by : (ss : Scopes) (m : Master) (rest : List Master) (heap : List Object) (x t : ℕ) (ds all : List DeclarationForm) (there : List ℕ) (k : List (Frame Value)) → collected all ≡ [] → Growing types (Some main) ss m rest heap all there → are_open there (reached_components types t) ≡ true → Anywhere (inside k) (λ us. are_open us (reached_components types t) ≡ true) → NestsOutside types callees (Some main) calling there ss (scopes rest) k → (within : Bool) → inside k ≡ within → CanOwn types t (m ∷ rest)
   begins_by ss m rest heap x t ds all there k none g opens free n true is = free is (all_of (scopes (m ∷ rest)))
   begins_by ss m rest heap x t ds all there k none g opens free n false is =
       open_within there (all_of (scopes (m ∷ rest))) (reached_components types t) (λ u le. own u le) opens
@@ -116,11 +116,12 @@ module _ (types : List TypeForm) (callees : Callees) (main : List ℕ) (calling 
       own u le =
           let sum = g.all u in
           let nothing : times u (collected all) ≡ 0 = ap (times u) none in
+          let lacking : times u g.lacks ≡ 0 = ap (times u) g.lacking in
           part_there u (opened m.items) (all_of ss) (all_of (scopes rest))
           (λ more. outside_there there u ss (scopes rest) k g.covers (λ nest. all_there u ss (scopes rest) k is g.covers nest more) n more)
-          (omega (arith, sum, nothing, le))
+          (omega (arith, sum, nothing, lacking, le))
 
-  ready_begins : (ss : Scopes) (m : Master) (rest : List Master) (heap : List Object) (ds : List DeclarationForm) (there : List ℕ) (k : List (Frame Value)) → Growing types ss m rest heap ds there → Anywhere (inside k) (λ us. RecordsNest types us ds) → NestsOutside types callees main calling there ss (scopes rest) k → PartReady types (m ∷ rest) ds
+  ready_begins : (ss : Scopes) (m : Master) (rest : List Master) (heap : List Object) (ds : List DeclarationForm) (there : List ℕ) (k : List (Frame Value)) → Growing types (Some main) ss m rest heap ds there → Anywhere (inside k) (λ us. RecordsNest types us ds) → NestsOutside types callees (Some main) calling there ss (scopes rest) k → PartReady types (m ∷ rest) ds
   ready_begins ss m rest heap [] there k g free n = tt
   ready_begins ss m rest heap (creates_pool pool ∷ ds) there k g free n = tt
   ready_begins ss m rest heap (collects access ∷ ds) there k g free n = tt
@@ -128,7 +129,7 @@ module _ (types : List TypeForm) (callees : Callees) (main : List ℕ) (calling 
   ready_begins ss m rest heap (declares_record x t initial ∷ ds) there k g free n =
       begins_by ss m rest heap x t ds (declares_record x t initial ∷ ds) there k (all_objects ds g.first) g g.coming.1 (λ within us. (free within us).1) n (inside k) refl
 
-  ready_beginning : (s : State) (b : Begins types callees main calling s) → Free types callees s.control → (f : Frame Value) (rest : List (Frame Value)) → s.control ≡ f ∷ rest → FrameReady types s.masters f
+  ready_beginning : (s : State) (b : Begins types callees (Some main) calling s) → Free types callees s.control → (f : Frame Value) (rest : List (Frame Value)) → s.control ≡ f ∷ rest → FrameReady types s.masters f
   ready_beginning s b free f rest top =
       let own : Free types callees (frame.Elaborates b.ds b.fs b.hs ∷ b.k) = subst (λ (k : List (Frame Value)). Free types callees k) b.control free in
       let part = ready_begins b.ss b.m b.rest s.heap b.ds b.there b.k b.growing (λ within us. (own.0 within us).2) b.nests in
@@ -136,15 +137,15 @@ module _ (types : List TypeForm) (callees : Callees) (main : List ℕ) (calling 
       let same : frame.Elaborates b.ds b.fs b.hs ≡ f = cc in
       subst (λ (g : Frame Value). FrameReady types s.masters g) same (subst (λ (ms : List Master). PartReady types ms b.ds) (sym b.masters) part)
 
-  ready_by : (s : State) → Nested types callees main calling s → Free types callees s.control → (f : Frame Value) (rest : List (Frame Value)) → s.control ≡ f ∷ rest → FrameReady types s.masters f
+  ready_by : (s : State) → Nested types callees (Some main) calling s → Free types callees s.control → (f : Frame Value) (rest : List (Frame Value)) → s.control ≡ f ∷ rest → FrameReady types s.masters f
   ready_by s (standing ss w n) free f rest top =
-      ready_standing ss s.masters f rest w.covers (subst (λ (k : List (Frame Value)). Nests types callees main calling ss (scopes s.masters) k) top n)
+      ready_standing ss s.masters f rest w.covers (subst (λ (k : List (Frame Value)). Nests types callees (Some main) calling ss (scopes s.masters) k) top n)
       (subst (λ (k : List (Frame Value)). Free types callees k) top free)
   ready_by s (beginning b) free f rest top = ready_beginning s b free f rest top
   ready_by s (resting ss w none ends) free f rest top = absurd (cc (ends, top))
   ready_by s (parting ss w runs goes) free f rest top =
-      ready_parting ss s.masters f rest w.layered (subst (λ (k : List (Frame Value)). Goes types callees main calling ss (scopes s.masters) k) top goes)
+      ready_parting ss s.masters f rest w.layered (subst (λ (k : List (Frame Value)). Goes types callees (Some main) calling ss (scopes s.masters) k) top goes)
 
 -- Each state of a run is ready for its next step.
-pub is_ready : (p : ProgramForm) (s : State) → Scoped p s → Free p.types (callees_of p) s.control → (f : Frame Value) (rest : List (Frame Value)) → s.control ≡ f ∷ rest → FrameReady p.types s.masters f
+pub is_ready : (p : ProgramForm) (s : State) → ScopedSo true p s → Free p.types (callees_of p) s.control → (f : Frame Value) (rest : List (Frame Value)) → s.control ≡ f ∷ rest → FrameReady p.types s.masters f
 is_ready p s scoped free = ready_by p.types (callees_of p) (collected p.declarations) (calls_in p) s scoped.nested free

@@ -1,6 +1,6 @@
 -- Each state of a run has open what its record objects need.
 
-use Rattle.std.proofs.Common.{ℤ, List, ◌∷◌}
+use Rattle.std.proofs.Common.{ℤ, List, ◌∷◌, true}
 use Rattle.ada_program.specs.declared.program.Program.{Program}
 use Rattle.ada_program.specs.ProgramForm.{ProgramForm, program_form}
 use Rattle.ada_program.specs.WellFormed.{IsWellFormed}
@@ -9,22 +9,22 @@ use Rattle.ada_meaning.specs.Named.{State, next}
 use Rattle.ada_meaning.specs.Run.{Event, Choice, Step, Run, here, there, first_state}
 use Rattle.ada_order.proofs.Controls.{led}
 use Rattle.ada_scopes.specs.Scopes.{OperationsNestAnywhere}
-use Rattle.ada_scopes.proofs.Operations.{operations_here, anywhere_nests}
+use Rattle.ada_scopes.proofs.Operations.{operations_here, anywhere_open}
 use Rattle.ada_scopes.proofs.Treatments.{TreatsFirst}
-use Rattle.ada_scopes.proofs.Runs.{Scoped, first_nested, step_nested}
+use Rattle.ada_scopes.proofs.Runs.{ScopedSo, first_so, step_so}
 use Rattle.ada_outlived.proofs.Control.{Keeps}
 use Rattle.ada_outlived.proofs.Steps.{next_good}
 use Rattle.ada_outlived.proofs.Ready.{is_ready}
 
 -- What each state of a run keeps.
 pub record Outlives (p : ProgramForm) (s : State) : Type 0 where
-  pub scoped : Scoped p s
+  pub scoped : ScopedSo true p s
   pub keeps : Keeps p.types (callees_of p) s
 
 -- The first state owns nothing, and no body of a Finalize runs.
 pub first_outlives : (program : Program) → IsWellFormed (program_form program) → CollectionsNest (program_form program) → (input : List ℤ) → Outlives (program_form program) (first_state program input)
 first_outlives program well nest input = record {
-  scoped = first_nested program well nest input;
+  scoped = first_so true program well nest input;
   keeps = ((tt, tt), ((λ within. absurd (cc within)), tt));
 }
 
@@ -34,7 +34,7 @@ step_outlives program s after choice e operations h step =
     let p = program_form program in
     let types = program.types.items in
     record {
-      scoped = step_nested program s after choice e (λ first. anywhere_nests (program_form program) (operations first)) h.scoped step;
+      scoped = step_so true program s after choice e (λ first. anywhere_open (program_form program) (operations first)) h.scoped step;
       keeps = (led (λ told event state. Keeps p.types (callees_of p) state) (next types p.bodies s) choice e after
           (next_good p.types (callees_of p) p.bodies h.scoped.bodies types s (λ first of. operations_here (callees_of p) types of (operations first))
           (λ f rest runs top. is_ready p s h.scoped h.keeps.1 f rest top) h.keeps) step).1;

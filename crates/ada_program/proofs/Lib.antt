@@ -1,5 +1,7 @@
 -- lemmas of this crate
+pub mod Deep
 pub mod Firsts
+pub mod Growing
 mod InOrder
 pub mod Overridden
 mod Profiles

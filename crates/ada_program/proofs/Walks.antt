@@ -15,7 +15,8 @@ use Rattle.ada_program.specs.declared.records.RecordPlace.{RecordPlace}
 use Rattle.ada_program.specs.Controlled.{number_in}
 use Rattle.ada_program.specs.ProgramForm.{PartForm, TypeForm, record_of, access_to, object_of}
 use Rattle.ada_program.specs.Walks.{Walks, ends, into}
-use Rattle.ada_program.specs.WellFormed.{kind_fits, finalization_in, finalization_of, count_said, part_count, parts_within, is_numbered_below, is_of_earlier, parts_in_order, parent_first, has_number, numbered_types, type_fits, has_parts_from, parts_named, parted_components, has_part, place_in, place_within, place_inside, is_whole, is_found, place_from, has_parts_at}
+use Rattle.ada_program.specs.WellFormed.{kind_fits, finalization_in, finalization_of, count_said, part_count, parts_within, is_numbered_below, is_of_earlier, parts_in_order, parent_first, has_number, numbered_types, type_fits, has_parts_from, parts_named, parted_components, has_part, place_in, place_within, place_inside, is_whole, is_found, place_from, is_part_of, has_parts_at}
+use Rattle.ada_program.proofs.Deep.{walks_to_part}
 
 pub and_left : (a b : Bool) → (a && b) ≡ true → a ≡ true
 and_left true b h = refl
@@ -125,10 +126,13 @@ both false b h g = absurd (cc)
 counts_within : (count part within : ℕ) → part + count ≤ within → has_parts_from count part within ≡ true
 counts_within count part within fits = grind (arith, common_steps, fits)
 
--- The controlled parts of a record that has none lie anywhere.
-pub lie_anywhere : (types : List TypeForm) (u : ℕ) (object : Option ℕ) (c k : ℕ) → part_count types u ≡ 0 → has_parts_at types u object c k ≡ true
-lie_anywhere types u object c k none =
-    ap (λ (n : ℕ). has_parts_from n k (parts_named types object) && ((n == 0) || is_found types (length types) u (place_from object c k))) none
+-- The controlled parts of a record that has none lie wherever it is a part.
+pub lie_anywhere :
+    (types : List TypeForm) (u : ℕ) (object : Option ℕ) (c k : ℕ) → part_count types u ≡ 0 → is_part_of types u object ≡ true
+    → has_parts_at types u object c k ≡ true
+lie_anywhere types u object c k none is =
+    ap (λ (n : ℕ). has_parts_from n k (parts_named types object) && ((n == 0) || is_found types (length types) u (place_from object c k)) && is_part_of types u object) none
+    ∙ is
 
 -- Walks go on, also by one declared component.
 pub walks_on :
@@ -335,14 +339,18 @@ module _ (types : List TypeForm) (fit : list_all (type_fits types) types ≡ tru
       let all = count_by-le-length (λ d. is_some (finalization_in (Some d))) types in
       found_deep u t c k begins.f.number.0 (length types) walks some (ap (λ (o : Option TypeForm). number_in (finalization_in o)) begins.at) (omega (arith, below, all))
 
-  -- So its controlled parts lie there; those of a record that has none lie anywhere.
+  -- So its controlled parts lie there; those of a record that has none lie wherever it is a part.
   lie_there : (t c k u count : ℕ) → part_count types u ≡ count → Walks types t c k u → has_parts_at types u (Some t) c k ≡ true
-  lie_there t c k u zero is walks = lie_anywhere types u (Some t) c k is
+  lie_there t c k u zero is walks = lie_anywhere types u (Some t) c k is (walks_to_part types t c k u walks)
   lie_there t c k u (suc count) is walks =
       let within = parts_walked t c k u walks in
       let there = found t c k u walks (omega (arith, is)) in
-      both (has_parts_from (part_count types u) k (part_count types t)) ((part_count types u == 0) || is_found types (length types) u (Some (place t c k)))
-      (counts_within (part_count types u) k (part_count types t) within) (or_right (part_count types u == 0) (is_found types (length types) u (Some (place t c k))) there)
+      let counts = has_parts_from (part_count types u) k (part_count types t) in
+      let found_there = (part_count types u == 0) || is_found types (length types) u (Some (place t c k)) in
+      both (counts && found_there) (is_part_of types u (Some t))
+      (both counts found_there
+      (counts_within (part_count types u) k (part_count types t) within) (or_right (part_count types u == 0) (is_found types (length types) u (Some (place t c k))) there))
+      (walks_to_part types t c k u walks)
 
   pub has_parts_walked : (t c k u : ℕ) → Walks types t c k u → has_parts_at types u (Some t) c k ≡ true
   has_parts_walked t c k u walks = lie_there t c k u (part_count types u) refl walks

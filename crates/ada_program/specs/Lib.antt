@@ -10,6 +10,8 @@ pub mod ProgramForm
 pub mod Typed
 -- which types are controlled, and which components have controlled parts (7.6)
 pub mod Controlled
+-- which records lie in which (3.8)
+pub mod Parts
 -- what a well-formed program is
 pub mod WellFormed
 -- how records with controlled parts lie in others (7.6)

@@ -24,6 +24,7 @@ use Rattle.ada_program.specs.declared.records.RecordPlace.{RecordPlace}
 use Rattle.ada_program.specs.declared.program.ScalarType.{ScalarType}
 use Rattle.ada_program.specs.declared.program.ScalarType.TheVariants.{Integer, Boolean}
 use Rattle.ada_program.specs.Form.{PathForm, ActualForm, in_value, in_null, in_access, in_record, in_out_path, in_out_access, in_out_component, in_out_record, RecordPathForm, ExpressionForm, integer, boolean, reads, is_null, applied_to, chained, LinksForm, no_more_links, a_link, ItemForm, null_item, item_of_path, item_of_value, item_of_record, RightForm, nothing, value_of, allocates, allocates_default, computes, StmtForm, skips, assigns, assigns_record, frees, gets, writes, writes_text, chooses, repeats, counts, exits, calls, returns, raises, encloses, StmtsForm, no_stmts, a_stmt, BranchesForm, otherwise, a_branch, HandlersForm, no_handlers, a_handler, DeclarationForm, creates_pool, collects, declares, declares_record}
+use Rattle.ada_program.specs.Parts.{has_part_within}
 use Rattle.ada_program.specs.ProgramForm.{PartForm, TypeForm, record_of, access_to, object_of, VariableForm, BodyForm, ProgramForm, main_body}
 
 -- The type that an access type designates (3.10): none, if it is no access type.
@@ -606,12 +607,17 @@ abbrev pub place_from : (object : Option ℕ) → (first part : ℕ) → Option 
 place_from None first part = None
 place_from (Some t) first part = Some (record { within = t; first = first; part = part })
 
--- The controlled parts of a record lie in an object, where it has some (7.6): they are among the object's, and a record of its type begins there. Records are
--- nested no deeper than there are types.
+-- Objects of a type, where there is one, have a part of a record type, at any depth (3.8). Records are nested no deeper than there are types.
+abbrev pub is_part_of : List TypeForm → (record_type : ℕ) → (object : Option ℕ) → Bool
+is_part_of types t None = false
+is_part_of types t (Some whole) = has_part_within types (length types) t whole
+
+-- The parts of a record lie in an object. Where it has controlled ones (7.6), they are among the object's, and a record of its type begins there. And the
+-- objects of the object's type have a part of the record's.
 abbrev pub has_parts_at : List TypeForm → (record_type : ℕ) → (object : Option ℕ) → (first part : ℕ) → Bool
 has_parts_at types t object first part =
     has_parts_from (part_count types t) part (parts_named types object)
-    && ((part_count types t == 0) || is_found types (length types) t (place_from object first part))
+    && ((part_count types t == 0) || is_found types (length types) t (place_from object first part)) && is_part_of types t object
 
 -- A path leads to a record of its type (4.1): such a record lies in the object to which the path leads, from that component on, and so do its controlled
 -- parts, from that number on.

@@ -22,6 +22,7 @@ mod targets;
 mod typing;
 mod values;
 mod well_formed;
+mod within;
 
 pub use crate::program::{
     PartNo, Path, PoolNo, ProcedureNo, Program, RecordNo, Stmt, TypeNo, VariableNo,

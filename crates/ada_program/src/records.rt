@@ -19,6 +19,7 @@ use crate::program::{
     Variable,
 };
 use crate::typing::has_type;
+use crate::within::is_part_of;
 
 /// A place in the records of a type, where a record of some type may begin: so many of their elementary components, and so
 /// many of their controlled parts, lie before it (4.1, 7.6).
@@ -49,7 +50,7 @@ pub(crate) fn is_record_path(
     }
 }
 
-/// Whether the controlled parts of a path's record lie in the objects that values of a type name.
+/// Whether the parts of a path's record lie in the objects that values of a type name.
 fn has_parts_at(types: &[TypeDefinition], access: usize, path: &RecordPath) -> bool
     ensures { let object = fits.object_named (types_in types.now) (Some access) in
         result ≡ fits.has_parts_at (types_in types.now) path.now.record.0 object path.now.first.0 path.now.part.0 }
@@ -57,6 +58,7 @@ fn has_parts_at(types: &[TypeDefinition], access: usize, path: &RecordPath) -> b
     let count = part_count(types, path.record.0);
     has_parts_from(count, path.part.0, parts_named(types, access))
         && (count == 0 || is_found(types, path.record.0, place_from(types, access, path)))
+        && is_part_of(types, path.record, named_type(types, access))
 }
 
 /// The place of a path's record in the objects that values of a type name.

@@ -5,16 +5,13 @@ use Rattle.std.specs.Prelude.{not, ◌==◌, if◌then◌else◌, is_some, Optio
 use Rattle.std.specs.List.{list_all, slice_get, slice_index_or}
 use Rattle.ada_effects.specs.Effects.{record_path_raises}
 use Rattle.ada_program.specs.Form.{RecordPathForm, ItemForm, RightForm, nothing, value_of, allocates, allocates_default, computes, StmtForm, skips, assigns, assigns_record, frees, gets, writes, writes_text, chooses, repeats, counts, exits, calls, returns, raises, encloses, StmtsForm, no_stmts, a_stmt, BranchesForm, otherwise, a_branch, HandlersForm, no_handlers, a_handler, DeclarationForm, creates_pool, collects, declares, declares_record}
-use Rattle.ada_program.specs.declared.program.ComponentKind.{ComponentKind}
-use Rattle.ada_program.specs.declared.program.ComponentKind.TheVariants as component
-use Rattle.ada_program.specs.Nested.{collected, is_one_of, kind_is_open, are_open, record_nests}
 use Rattle.ada_program.specs.ProgramForm.{TypeForm, BodyForm, ProgramForm}
-use Rattle.ada_program.specs.WellFormed.{finalization_of, object_named, reached_components}
+use Rattle.ada_program.specs.WellFormed.{finalization_of, object_named}
 use Rattle.ada_quiet.specs.Apart.{is_bare_item}
 use Rattle.ada_quiet.specs.Bare.{has_bare_objects}
 use Rattle.std.proofs.lemmas.Bool.{or_cases, or_left, or_right}
-use Rattle.ada_quiet.specs.Calm.{inert_types, is_known_calm}
-use Rattle.ada_quiet.specs.Frugal.{Thrift, assigns_at_hand, allocates_frugally, is_bare_initial, is_inert_named, is_inert_initial, is_frugal_declaration, are_frugal_declarations, is_frugal_stmt, are_frugal, are_frugal_branches, are_frugal_handlers, is_frugal_body, frugal_from, frugal_procedures, frugal_operations, thrift_of}
+use Rattle.ada_quiet.specs.Calm.{is_known_calm}
+use Rattle.ada_quiet.specs.Frugal.{Thrift, assigns_at_hand, allocates_frugally, called_by, is_bare_initial, is_inert, is_unadjusted, is_unadjusted_named, is_unadjusted_initial, is_frugal_declaration, are_frugal_declarations, is_frugal_stmt, are_frugal, are_frugal_branches, are_frugal_handlers, is_frugal_body, frugal_from, frugal_procedures, frugal_operations, thrift_of}
 use Rattle.ada_quiet.proofs.InUse.{others}
 
 -- Of two tests one is chosen in the same way.
@@ -26,39 +23,12 @@ either false a b c d one other h = other h
 abbrev pub TellsMore : (less more : List Bool) → Type 0
 TellsMore less more = (n : ℕ) → slice_index_or less n false ≡ true → slice_index_or more n false ≡ true
 
--- All access types of one list are in the other one, too.
-abbrev pub OpensMore : (less more : List ℕ) → Type 0
-OpensMore less more = (t : ℕ) → is_one_of less t ≡ true → is_one_of more t ≡ true
-
--- What bodies go by that are called, where these access types are outermost, and this is known of procedures.
-abbrev pub by : List TypeForm → (outermost : List ℕ) → (frugal : List Bool) → Thrift
-by types outermost frugal =
-    record { types = types; outermost = outermost; inert = inert_types types; procedures = frugal; operation = false }
-
 -- Where bodies of one kind are those of operations, those of the other kind are, too.
 abbrev pub OperatesMore : (less more : Bool) → Type 0
 OperatesMore less more = less ≡ true → more ≡ true
 
--- What names objects of the collections of one list alone does so of the other one.
-module _ (less more : List ℕ) (opens : OpensMore less more) where
-  kind_more : (kind : ComponentKind) → kind_is_open less kind ≡ true → kind_is_open more kind ≡ true
-  kind_more (component.Integer initial) h = refl
-  kind_more (component.Boolean initial) h = refl
-  kind_more (component.Access access) h = opens access.0 h
-
-  kinds_more : (kinds : List ComponentKind) → list_all (kind_is_open less) kinds ≡ true → list_all (kind_is_open more) kinds ≡ true
-  kinds_more [] h = refl
-  kinds_more (kind ∷ kinds) h =
-      others (kind_is_open less kind) (list_all (kind_is_open less) kinds) (kind_is_open more kind) (list_all (kind_is_open more) kinds)
-      (kind_more kind) (kinds_more kinds) h
-
-  reached_more : (reached : Option (List ComponentKind)) → are_open less reached ≡ true → are_open more reached ≡ true
-  reached_more None h = refl
-  reached_more (Some kinds) h = kinds_more kinds h
-
--- What is frugal by the one is so by the other, which knows at least the same outermost access types and procedures, and the same inert types, and is asked of
--- operations, if the one is.
-module _ (one other : Thrift) (same : one.types ≡ other.types) (opens : OpensMore one.outermost other.outermost) (alike : one.inert ≡ other.inert)
+-- What is frugal by the one is so by the other, which knows at least the same procedures, and the same of record types, and is asked of operations, if the one is.
+module _ (one other : Thrift) (same : one.types ≡ other.types) (alike : one.unadjusted ≡ other.unadjusted) (finalized : one.unfinalized ≡ other.unfinalized)
     (tells : TellsMore one.procedures other.procedures) (operates : OperatesMore one.operation other.operation) where
   -- What is asked of types holds of the same types.
   bare_more : (t : ℕ) → has_bare_objects one.types t ≡ has_bare_objects other.types t
@@ -71,38 +41,42 @@ module _ (one other : Thrift) (same : one.types ≡ other.types) (opens : OpensM
   right_more (allocates_default access) h = refl
   right_more (computes e) h = refl
 
-  -- So is what a record object names by its components.
-  nests_more : (t : ℕ) → record_nests one.types one.outermost t ≡ true → record_nests other.types other.outermost t ≡ true
-  nests_more t h =
-      ap (λ (types : List TypeForm). record_nests types other.outermost t) (sym same)
-      ∙ reached_more one.outermost other.outermost opens (reached_components one.types t) h
+  -- So is what is known of a record type.
+  known_more : (t : ℕ) (less more : List Bool) → less ≡ more → is_known_calm less (finalization_of one.types t) ≡ true
+      → is_known_calm more (finalization_of other.types t) ≡ true
+  known_more t less more told h =
+      let known = λ (marks : List Bool) (types : List TypeForm). is_known_calm marks (finalization_of types t) in
+      sym (ap (λ (marks : List Bool). known marks one.types) told ∙ ap (known more) same) ∙ h
 
-  -- So is an initial value of an inert type.
-  inert_more : (o : Option ℕ) → is_inert_named one o ≡ true → is_inert_named other o ≡ true
-  inert_more None h = absurd (cc h)
-  inert_more (Some t) h =
-      let known = λ (inert : List Bool) (types : List TypeForm). is_known_calm inert (finalization_of types t) in
-      sym (ap (λ (inert : List Bool). known inert one.types) alike ∙ ap (known other.inert) same) ∙ h
+  inert_more : (t : ℕ) → is_inert one t ≡ true → is_inert other t ≡ true
+  inert_more t h =
+      others (is_known_calm one.unfinalized (finalization_of one.types t)) (is_unadjusted one t)
+      (is_known_calm other.unfinalized (finalization_of other.types t)) (is_unadjusted other t)
+      (known_more t one.unfinalized other.unfinalized finalized) (known_more t one.unadjusted other.unadjusted alike) h
 
-  initial_more : (t : ℕ) (items : List ItemForm) → (is_bare_initial one.types t items || is_inert_initial one t) ≡ true
-      → (is_bare_initial other.types t items || is_inert_initial other t) ≡ true
-  initial_more t items h = elim (or_cases (is_bare_initial one.types t items) (is_inert_initial one t) h) [
+  -- So is an initial value of a type that overrides no Adjust.
+  unadjusted_more : (o : Option ℕ) → is_unadjusted_named one o ≡ true → is_unadjusted_named other o ≡ true
+  unadjusted_more None h = absurd (cc h)
+  unadjusted_more (Some t) h = known_more t one.unadjusted other.unadjusted alike h
+
+  initial_more : (t : ℕ) (items : List ItemForm) → (is_bare_initial one.types t items || is_unadjusted_initial one t) ≡ true
+      → (is_bare_initial other.types t items || is_unadjusted_initial other t) ≡ true
+  initial_more t items h = elim (or_cases (is_bare_initial one.types t items) (is_unadjusted_initial one t) h) [
     | inl bare ↦
-        or_left (is_bare_initial other.types t items) (is_inert_initial other t)
+        or_left (is_bare_initial other.types t items) (is_unadjusted_initial other t)
         (ap (λ (types : List TypeForm). is_bare_initial types t items) (sym same) ∙ bare)
-    | inr inert ↦
-        or_right (is_bare_initial other.types t items) (is_inert_initial other t)
-        (ap (λ (types : List TypeForm). is_inert_named other (object_named types (Some t))) (sym same) ∙ inert_more (object_named one.types (Some t)) inert)
+    | inr copied ↦
+        or_right (is_bare_initial other.types t items) (is_unadjusted_initial other t)
+        (ap (λ (types : List TypeForm). is_unadjusted_named other (object_named types (Some t))) (sym same)
+        ∙ unadjusted_more (object_named one.types (Some t)) copied)
   ]
 
   declaration_more : (d : DeclarationForm) → is_frugal_declaration one d ≡ true → is_frugal_declaration other d ≡ true
   declaration_more (creates_pool p) h = h
   declaration_more (collects access) h = h
   declaration_more (declares x right) h = right_more right h
-  declaration_more (declares_record x t None) h = nests_more t h
-  declaration_more (declares_record x t (Some items)) h =
-      others (record_nests one.types one.outermost t) (is_bare_initial one.types t items || is_inert_initial one t) (record_nests other.types other.outermost t)
-      (is_bare_initial other.types t items || is_inert_initial other t) (nests_more t) (initial_more t items) h
+  declaration_more (declares_record x t None) h = refl
+  declaration_more (declares_record x t (Some items)) h = initial_more t items h
 
   declarations_more : (ds : List DeclarationForm) → are_frugal_declarations one ds ≡ true → are_frugal_declarations other ds ≡ true
   declarations_more [] h = refl
@@ -113,13 +87,12 @@ module _ (one other : Thrift) (same : one.types ≡ other.types) (opens : OpensM
   -- So is a record with controlled parts that lies at hand,
   hand_more : (target : RecordPathForm) → assigns_at_hand one target ≡ true → assigns_at_hand other target ≡ true
   hand_more target h =
-      let known = λ (inert : List Bool) (types : List TypeForm). is_known_calm inert (finalization_of types target.record_type) in
+      let t = target.record_type in
       let near = not (record_path_raises target) in
       let inside = not (target.object.root == 0 && target.part == 0) in
-      others (one.operation && known one.inert one.types && near) inside (other.operation && known other.inert other.types && near) inside
-      (others (one.operation && known one.inert one.types) near (other.operation && known other.inert other.types) near
-      (others one.operation (known one.inert one.types) other.operation (known other.inert other.types) operates
-      (λ calm. sym (ap (λ (inert : List Bool). known inert one.types) alike ∙ ap (known other.inert) same) ∙ calm))
+      others (one.operation && is_inert one t && near) inside (other.operation && is_inert other t && near) inside
+      (others (one.operation && is_inert one t) near (other.operation && is_inert other t) near
+      (others one.operation (is_inert one t) other.operation (is_inert other t) operates (inert_more t))
       (λ is. is))
       (λ is. is) h
 
@@ -201,40 +174,40 @@ pub append_length : (xs : List Bool) (x : Bool) → length (xs ++ x ∷ []) ≡ 
 append_length [] x = refl
 append_length (y ∷ xs) x = ap suc (append_length xs x)
 
--- Where these access types are outermost, procedures come behind others.
-module _ (types : List TypeForm) (outermost : List ℕ) where
-  from_more : (known : List Bool) (bs : List BodyForm) → TellsMore known (frugal_from types outermost known bs)
+-- Procedures come behind others.
+module _ (types : List TypeForm) where
+  from_more : (known : List Bool) (bs : List BodyForm) → TellsMore known (frugal_from types known bs)
   from_more known [] n h = h
   from_more known (b ∷ bs) n h =
-      let here = is_frugal_body (by types outermost known) b in
+      let here = is_frugal_body (called_by types known) b in
       from_more (known ++ here ∷ []) bs n (append_more known (here ∷ []) n h)
 
   from_keeps : (known : List Bool) (bs : List BodyForm) (n : ℕ) → n < length known
-      → slice_index_or (frugal_from types outermost known bs) n false ≡ slice_index_or known n false
+      → slice_index_or (frugal_from types known bs) n false ≡ slice_index_or known n false
   from_keeps known [] n less = refl
   from_keeps known (b ∷ bs) n less =
-      let here = is_frugal_body (by types outermost known) b in
+      let here = is_frugal_body (called_by types known) b in
       from_keeps (known ++ here ∷ []) bs n (omega (arith, less, append_length known here)) ∙ append_keeps known (here ∷ []) n less
 
   -- So each one behind those that are known is told as its body is.
   from_at : (known : List Bool) (bs : List BodyForm) (n i : ℕ) (b : BodyForm) → i ≡ n + length known → slice_get bs n ≡ Some b
-      → slice_index_or (frugal_from types outermost known bs) i false ≡ true
-      → is_frugal_body (by types outermost (frugal_from types outermost known bs)) b ≡ true
+      → slice_index_or (frugal_from types known bs) i false ≡ true
+      → is_frugal_body (called_by types (frugal_from types known bs)) b ≡ true
   from_at known [] n i b place at told = absurd (cc at)
   from_at known (c ∷ bs) zero i b place at told =
-      let here = is_frugal_body (by types outermost known) c in
+      let here = is_frugal_body (called_by types known) c in
       let more = known ++ here ∷ [] in
-      let all = frugal_from types outermost more bs in
+      let all = frugal_from types more bs in
       let first : i ≡ length known = omega (arith, place) in
       let kept : slice_index_or all (length known) false ≡ slice_index_or more (length known) false =
       from_keeps more bs (length known) (omega (arith, append_length known here)) in
       let frugal : here ≡ true = sym (kept ∙ append_last known here) ∙ ap (λ (j : ℕ). slice_index_or all j false) (sym first) ∙ told in
       let same : c ≡ b = cc at in
-      subst (λ (d : BodyForm). is_frugal_body (by types outermost all) d ≡ true) same
-      (body_more (by types outermost known) (by types outermost all) refl (λ t h. h) refl (λ j h. from_more more bs j (append_more known (here ∷ []) j h))
+      subst (λ (d : BodyForm). is_frugal_body (called_by types all) d ≡ true) same
+      (body_more (called_by types known) (called_by types all) refl refl refl (λ j h. from_more more bs j (append_more known (here ∷ []) j h))
       (λ h. h) c frugal)
   from_at known (c ∷ bs) (suc n) i b place at told =
-      let here = is_frugal_body (by types outermost known) c in
+      let here = is_frugal_body (called_by types known) c in
       from_at (known ++ here ∷ []) bs n i b (omega (arith, place, append_length known here)) at told
 
 -- What the bodies go by that are called in a program.
@@ -244,11 +217,11 @@ thrift_called p = record (thrift_of p) { operation = false }
 -- A procedure that is told to be frugal has a frugal body, as it is called.
 pub frugal_called : (p : ProgramForm) (number : ℕ) (b : BodyForm) → slice_index_or (frugal_procedures p) number false ≡ true
     → slice_get p.bodies number ≡ Some b → is_frugal_body (thrift_called p) b ≡ true
-frugal_called p number b told there = from_at p.types (collected p.declarations) [] p.bodies number number b (omega arith) there told
+frugal_called p number b told there = from_at p.types [] p.bodies number number b (omega arith) there told
 
 -- What is frugal as it is called is so as an operation.
 pub frugal_more : (p : ProgramForm) (b : BodyForm) → is_frugal_body (thrift_called p) b ≡ true → is_frugal_body (thrift_of p) b ≡ true
-frugal_more p b frugal = body_more (thrift_called p) (thrift_of p) refl (λ t h. h) refl (λ n h. h) (λ h. refl) b frugal
+frugal_more p b frugal = body_more (thrift_called p) (thrift_of p) refl refl refl (λ n h. h) (λ h. refl) b frugal
 
 -- So a procedure that is told to be frugal has a body that is frugal as that of an operation, too.
 pub frugal_at : (p : ProgramForm) (number : ℕ) (b : BodyForm) → slice_index_or (frugal_procedures p) number false ≡ true
@@ -272,26 +245,16 @@ alike true b there back = sym (there refl)
 alike false true there back = back refl
 alike false false there back = refl
 
--- It counts only which access types are outermost, and not in which order these stand.
+-- So it is by what is known, where the same is.
 pub thrift_alike :
-    (one other : Thrift) → one.types ≡ other.types → ((t : ℕ) → is_one_of one.outermost t ≡ is_one_of other.outermost t) → one.inert ≡ other.inert
-    → one.procedures ≡ other.procedures → one.operation ≡ other.operation → (b : BodyForm) → is_frugal_body one b ≡ is_frugal_body other b
-thrift_alike one other types same inert procedures operation b =
+    (one other : Thrift) → one.types ≡ other.types → one.unadjusted ≡ other.unadjusted → one.unfinalized ≡ other.unfinalized → one.procedures ≡ other.procedures
+    → one.operation ≡ other.operation → (b : BodyForm) → is_frugal_body one b ≡ is_frugal_body other b
+thrift_alike one other types unadjusted unfinalized procedures operation b =
     alike (is_frugal_body one b) (is_frugal_body other b)
-    (body_more one other types (λ t h. sym (same t) ∙ h) inert (λ n h. ap (λ (known : List Bool). slice_index_or known n false) (sym procedures) ∙ h)
+    (body_more one other types unadjusted unfinalized (λ n h. ap (λ (known : List Bool). slice_index_or known n false) (sym procedures) ∙ h)
     (λ h. sym operation ∙ h) b)
-    (body_more other one (sym types) (λ t h. same t ∙ h) (sym inert) (λ n h. ap (λ (known : List Bool). slice_index_or known n false) procedures ∙ h)
+    (body_more other one (sym types) (sym unadjusted) (sym unfinalized) (λ n h. ap (λ (known : List Bool). slice_index_or known n false) procedures ∙ h)
     (λ h. operation ∙ h) b)
-
-module _ (types : List TypeForm) (one other : List ℕ) (same : (t : ℕ) → is_one_of one t ≡ is_one_of other t) where
-  body_alike : (known : List Bool) (b : BodyForm) → is_frugal_body (by types one known) b ≡ is_frugal_body (by types other known) b
-  body_alike known b = thrift_alike (by types one known) (by types other known) refl same refl refl refl b
-
-  pub frugal_alike : (known : List Bool) (bs : List BodyForm) → frugal_from types one known bs ≡ frugal_from types other known bs
-  frugal_alike known [] = refl
-  frugal_alike known (b ∷ bs) =
-      ap (λ (here : Bool). frugal_from types one (known ++ here ∷ []) bs) (body_alike known b)
-      ∙ frugal_alike (known ++ is_frugal_body (by types other known) b ∷ []) bs
 
 -- Tests that tell the same tell the same of each element.
 pub tests_alike : {A : Type 0} (one other : A → Bool) → ((x : A) → one x ≡ other x) → (xs : List A) → map one xs ≡ map other xs

@@ -8,13 +8,9 @@ pub mod InUse
 pub mod QuietFrugal
 -- quiet bodies are simple
 pub mod QuietSimple
--- the numbers that are marked
-pub mod MarkedNumbers
 -- procedures that are frugal have frugal bodies
 pub mod FrugalAt
 -- record types with controlled parts, by their numbers, and tables of what is known of them
 pub mod NumberedTypes
 -- which types are calm, by what lies in their objects
 pub mod CalmTypes
--- the first place where a component of a record frees an object
-pub mod Releasing

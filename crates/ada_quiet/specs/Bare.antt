@@ -1,9 +1,7 @@
--- Access types whose objects have no controlled parts, and components of access types.
+-- Access types whose objects have no controlled parts.
 
-use Rattle.std.specs.Prelude.{ℕ, Bool, false, not, ◌==◌, List, Option, Some, None, is_some}
+use Rattle.std.specs.Prelude.{ℕ, Bool, false, not, List, Option, Some, None, is_some}
 use Rattle.std.specs.List.{slice_get}
-use Rattle.ada_program.specs.declared.program.ComponentKind.{ComponentKind}
-use Rattle.ada_program.specs.declared.program.ComponentKind.TheVariants as component
 use Rattle.ada_program.specs.ProgramForm.{TypeForm, record_of, access_to, object_of}
 use Rattle.ada_program.specs.WellFormed.{finalization_of}
 
@@ -17,9 +15,3 @@ is_bare_access types (Some (object_of record_type)) = false
 -- So is the type of a number: its objects are bare, they have no controlled parts.
 abbrev pub has_bare_objects : List TypeForm → (access : ℕ) → Bool
 has_bare_objects types t = is_bare_access types (slice_get types t)
-
--- A component is of an access type (3.8, 3.10).
-abbrev pub is_component_of : (access : ℕ) → ComponentKind → Bool
-is_component_of t (component.Integer initial) = false
-is_component_of t (component.Boolean initial) = false
-is_component_of t (component.Access access) = access.0 == t

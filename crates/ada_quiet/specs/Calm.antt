@@ -1,13 +1,13 @@
 -- Record types and access types whose objects are calm: no operation that is asked about is called for them, neither for an object itself nor for a part of it
 -- (7.6).
 
-use Rattle.std.specs.Prelude.{ℕ, zero, suc, Bool, true, false, ◌&&◌, List, [], ◌∷◌, ◌++◌, find, Option, Some, None}
+use Rattle.std.specs.Prelude.{ℕ, zero, suc, Bool, true, false, ◌&&◌, if◌then◌else◌, List, [], ◌∷◌, ◌++◌, find, Option, Some, None}
 use Rattle.std.specs.List.{list_all, slice_get, slice_index_or}
 use Rattle.ada_program.specs.declared.program.Finalization.{Finalization}
 use Rattle.ada_program.specs.declared.program.PartKind.{PartKind}
 use Rattle.ada_program.specs.declared.program.PartKind.TheVariants as part
 use Rattle.ada_program.specs.ProgramForm.{TypeForm, record_of, access_to, object_of, ProgramForm}
-use Rattle.ada_program.specs.WellFormed.{finalization_in, finalization_of, has_number, numbered_types, overrides_nothing}
+use Rattle.ada_program.specs.WellFormed.{finalization_in, finalization_of, has_number, is_inherited, numbered_types}
 use Rattle.ada_quiet.specs.Quiet.{is_plain_operation, is_quiet_operation}
 
 -- Neither operation of a type that begins or ends an object touches storage: what overrides Initialize is plain, and what overrides Finalize is quiet (7.6).
@@ -56,10 +56,22 @@ calm_by own types = calm_up_to own types (numbered_types types)
 abbrev pub calm_types : ProgramForm → List Bool
 calm_types p = calm_by (λ t. ends_calmly p (finalization_in (Some t))) p.types
 
--- Of those of some types of which no operation is overridden, neither of one itself nor of a part of it, at any depth: they are inert, so where values of
--- theirs begin and end, nothing is called (7.6).
-abbrev pub inert_types : List TypeForm → List Bool
-inert_types types = calm_by (λ t. overrides_nothing (finalization_in (Some t))) types
+-- A type inherits Finalize, or Adjust, as is asked: no body overrides it (7.6).
+abbrev pub inherits : (finalize : Bool) → Option Finalization → Bool
+inherits finalize None = true
+inherits finalize (Some f) = is_inherited (if finalize then f.operations.finalize else f.operations.adjust)
+
+-- Of those of some types of which this is not overridden, neither of one itself nor of a part of it, at any depth.
+abbrev pub inheriting_types : (finalize : Bool) → List TypeForm → List Bool
+inheriting_types finalize types = calm_by (λ t. inherits finalize (finalization_in (Some t))) types
+
+-- Of those whose copies are adjusted by nothing that is overridden: where one gets its value from another record, nothing is called behind that (7.6).
+abbrev pub unadjusted_types : List TypeForm → List Bool
+unadjusted_types types = inheriting_types false types
+
+-- And of those of whose values nothing is finalized by a body: where one ends, nothing is called (7.6, 7.6.1).
+abbrev pub unfinalized_types : List TypeForm → List Bool
+unfinalized_types types = inheriting_types true types
 
 -- A type is an access type that designates a record type without controlled parts, or a calm one (3.10, 7.6).
 abbrev pub is_calm_access : List TypeForm → (calm : List Bool) → Option TypeForm → Bool

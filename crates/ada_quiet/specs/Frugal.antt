@@ -1,28 +1,26 @@
 -- Bodies of Initialize and Finalize that touch storage, and of procedures that they call (7.6, 4.8, 5.2, 6.4, 13.11.2): they allocate, move, follow and free
 -- objects, also some with controlled parts, which are initialized by default, assign records, and declare variables, which may be given
--- what they allocate, and record objects that name objects of the main procedure's collections alone: by default, or without controlled parts and with an
--- initial value. S10 refuses a Finalize that allocates.
+-- what they allocate, and record objects: by default, or with an initial value for which no Adjust is called. S10 refuses a Finalize that allocates.
 
 use Rattle.std.specs.Prelude.{ℕ, Bool, true, false, not, ◌&&◌, ◌||◌, ◌==◌, if◌then◌else◌, List, [], ◌∷◌, ◌++◌, map, Option, Some, None, is_some}
 use Rattle.std.specs.List.{list_all, slice_index_or}
 use Rattle.ada_effects.specs.Effects.{record_path_raises}
 use Rattle.ada_program.specs.Form.{RecordPathForm, ItemForm, RightForm, nothing, value_of, allocates, allocates_default, computes, StmtForm, skips, assigns, assigns_record, frees, gets, writes, writes_text, chooses, repeats, counts, exits, calls, returns, raises, encloses, StmtsForm, no_stmts, a_stmt, BranchesForm, otherwise, a_branch, HandlersForm, no_handlers, a_handler, DeclarationForm, creates_pool, collects, declares, declares_record}
 use Rattle.ada_program.specs.declared.program.ProcedureNo.{ProcedureNo}
-use Rattle.ada_program.specs.Nested.{collected, record_nests}
 use Rattle.ada_program.specs.ProgramForm.{TypeForm, BodyForm, ProgramForm}
 use Rattle.ada_program.specs.WellFormed.{finalization_of, object_named}
 use Rattle.ada_quiet.specs.Apart.{is_bare_item}
 use Rattle.ada_quiet.specs.Bare.{has_bare_objects}
-use Rattle.ada_quiet.specs.Calm.{inert_types, is_known_calm}
+use Rattle.ada_quiet.specs.Calm.{is_known_calm, unadjusted_types, unfinalized_types}
 use Rattle.ada_quiet.specs.Idle.{holds_parts}
 
--- What frugal bodies go by: the types of the program; the access types whose collections the main procedure declares; of each record type with controlled
--- parts, by its number among these, whether it is inert; of each procedure, by its number, whether its body is frugal where it is called (6.4); and whether
--- the body is that of an operation (7.6).
+-- What frugal bodies go by: the types of the program; of each record type with controlled parts, by its number among these, whether it overrides no Adjust, and
+-- whether it overrides no Finalize, neither itself nor in a part of it; of each procedure, by its number, whether its body is frugal where it is called (6.4);
+-- and whether the body is that of an operation (7.6).
 pub record Thrift : Type 0 where
   pub types : List TypeForm
-  pub outermost : List ℕ
-  pub inert : List Bool
+  pub unadjusted : List Bool
+  pub unfinalized : List Bool
   pub procedures : List Bool
   pub operation : Bool
 
@@ -38,24 +36,31 @@ allocates_frugally thrift (computes e) = true
 abbrev pub is_bare_initial : List TypeForm → (object_type : ℕ) → List ItemForm → Bool
 is_bare_initial types t items = not (holds_parts types t) && list_all (is_bare_item types) items
 
--- A record type is known to be inert: then nothing is called as an object is adjusted (7.6), nor as its master is left (7.6.1).
-abbrev pub is_inert_named : Thrift → (record_type : Option ℕ) → Bool
-is_inert_named thrift None = false
-is_inert_named thrift (Some t) = is_known_calm thrift.inert (finalization_of thrift.types t)
+-- It is known of a record type that nothing is called as an object is adjusted (7.6).
+abbrev pub is_unadjusted : Thrift → (record_type : ℕ) → Bool
+is_unadjusted thrift t = is_known_calm thrift.unadjusted (finalization_of thrift.types t)
 
--- A record object of such a type may get an initial value, too.
-abbrev pub is_inert_initial : Thrift → (object_type : ℕ) → Bool
-is_inert_initial thrift t = is_inert_named thrift (object_named thrift.types (Some t))
+-- So it is of one, if there is one.
+abbrev pub is_unadjusted_named : Thrift → (record_type : Option ℕ) → Bool
+is_unadjusted_named thrift None = false
+is_unadjusted_named thrift (Some t) = is_unadjusted thrift t
+
+-- A record object of such a type may get an initial value, too: it is finalized where its master is left, as one is that is initialized by default (7.6.1).
+abbrev pub is_unadjusted_initial : Thrift → (object_type : ℕ) → Bool
+is_unadjusted_initial thrift t = is_unadjusted_named thrift (object_named thrift.types (Some t))
+
+-- A record type is inert: nothing is called as a value ends to which another record is assigned, nor as that is adjusted then (5.2, 7.6).
+abbrev pub is_inert : Thrift → (record_type : ℕ) → Bool
+is_inert thrift t = is_known_calm thrift.unfinalized (finalization_of thrift.types t) && is_unadjusted thrift t
 
 -- A declaration is that of a variable (3.3.1), and so it is with what that is given at first; or of a record object that is initialized by default, or that may
--- get its initial value, and whose components, at any depth, name objects of outermost collections alone (3.8, 3.10.2): no collection and no pool is created.
+-- get its initial value: no collection and no pool is created.
 abbrev pub is_frugal_declaration : Thrift → DeclarationForm → Bool
 is_frugal_declaration thrift (creates_pool p) = false
 is_frugal_declaration thrift (collects access) = false
 is_frugal_declaration thrift (declares x right) = allocates_frugally thrift right
-is_frugal_declaration thrift (declares_record x t None) = record_nests thrift.types thrift.outermost t
-is_frugal_declaration thrift (declares_record x t (Some items)) =
-    record_nests thrift.types thrift.outermost t && (is_bare_initial thrift.types t items || is_inert_initial thrift t)
+is_frugal_declaration thrift (declares_record x t None) = true
+is_frugal_declaration thrift (declares_record x t (Some items)) = is_bare_initial thrift.types t items || is_unadjusted_initial thrift t
 
 -- So is each of these.
 abbrev pub are_frugal_declarations : Thrift → List DeclarationForm → Bool
@@ -65,7 +70,7 @@ are_frugal_declarations thrift ds = list_all (is_frugal_declaration thrift) ds
 -- variable, and no access value is followed on the way (4.1). If that is the formal parameter, which is the first variable, it is not that as a whole.
 abbrev pub assigns_at_hand : Thrift → RecordPathForm → Bool
 assigns_at_hand thrift target =
-    thrift.operation && is_known_calm thrift.inert (finalization_of thrift.types target.record_type) && not (record_path_raises target)
+    thrift.operation && is_inert thrift target.record_type && not (record_path_raises target)
     && not (target.object.root == 0 && target.part == 0)
 
 module _ (thrift : Thrift) where
@@ -109,23 +114,31 @@ module _ (thrift : Thrift) where
 abbrev pub is_frugal_body : Thrift → BodyForm → Bool
 is_frugal_body thrift b = are_frugal_declarations thrift b.declarations && are_frugal thrift b.statements && are_frugal_handlers thrift b.handlers
 
+-- What bodies go by that are called, where this is known of procedures.
+abbrev pub called_by : List TypeForm → (frugal : List Bool) → Thrift
+called_by types frugal = record {
+  types = types;
+  unadjusted = unadjusted_types types;
+  unfinalized = unfinalized_types types;
+  procedures = frugal;
+  operation = false;
+}
+
 -- Of these procedures, behind others, as they are called: each calls those before it.
-abbrev pub frugal_from : List TypeForm → (outermost : List ℕ) → (frugal : List Bool) → List BodyForm → List Bool
-frugal_from types outermost frugal [] = frugal
-frugal_from types outermost frugal (b ∷ bs) =
-    frugal_from types outermost
-    (frugal ++ is_frugal_body (record { types = types; outermost = outermost; inert = inert_types types; procedures = frugal; operation = false }) b ∷ []) bs
+abbrev pub frugal_from : List TypeForm → (frugal : List Bool) → List BodyForm → List Bool
+frugal_from types frugal [] = frugal
+frugal_from types frugal (b ∷ bs) = frugal_from types (frugal ++ is_frugal_body (called_by types frugal) b ∷ []) bs
 
 -- Of the procedures of a program, as they are called.
 abbrev pub frugal_procedures : ProgramForm → List Bool
-frugal_procedures p = frugal_from p.types (collected p.declarations) [] p.bodies
+frugal_procedures p = frugal_from p.types [] p.bodies
 
 -- What the frugal bodies of operations go by in a program.
 abbrev pub thrift_of : ProgramForm → Thrift
 thrift_of p = record {
   types = p.types;
-  outermost = collected p.declarations;
-  inert = inert_types p.types;
+  unadjusted = unadjusted_types p.types;
+  unfinalized = unfinalized_types p.types;
   procedures = frugal_procedures p;
   operation = true;
 }

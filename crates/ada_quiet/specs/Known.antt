@@ -1,6 +1,6 @@
 -- Which procedures or types are marked, what frugal bodies go by, as the code holds it, and which record types have which number.
 
-use Rattle.std.specs.Prelude.{◌≡◌, ◌<◌, ℕ, suc, Bool, true, false, List, [], ◌∷◌, length, map, count_by, Option, Some, None}
+use Rattle.std.specs.Prelude.{◌≡◌, ◌<◌, ℕ, Bool, false, List, length, count_by, Option, Some, None}
 use Rattle.std.specs.List.{slice_index_or, slice_set}
 use Rattle.ada_program.specs.declared.program.TypeDefinition.{TypeDefinition}
 use Rattle.ada_program.specs.Controlled.{number_by, type_numbered, has_parts}
@@ -12,23 +12,13 @@ use Rattle.ada_quiet.specs.Frugal.{Thrift}
 abbrev pub is_marked : (marks : List Bool) → (number : ℕ) → Bool
 is_marked marks number = slice_index_or marks number false
 
--- Whether the first number is marked stands before the others that are.
-abbrev pub with_first : (first : Bool) → (others : List ℕ) → List ℕ
-with_first true others = 0 ∷ others
-with_first false others = others
-
--- The numbers that are marked.
-abbrev pub marked_in : (marks : List Bool) → List ℕ
-marked_in [] = []
-marked_in (first ∷ marks) = with_first first (map suc (marked_in marks))
-
--- What frugal bodies go by, as the code holds it: the types, the collections of the main procedure, which record types are inert, which procedures
--- have frugal bodies where they are called, and whether the body is that of an operation.
+-- What frugal bodies go by, as the code holds it: the types, which record types override no Adjust and no Finalize, which procedures have frugal bodies where
+-- they are called, and whether the body is that of an operation.
 abbrev pub thrift_in : HeldThrift → Thrift
 thrift_in held = record {
   types = types_in held.types.now;
-  outermost = marked_in held.outermost.now;
-  inert = held.inert.now;
+  unadjusted = held.unadjusted.now;
+  unfinalized = held.unfinalized.now;
   procedures = held.procedures.now;
   operation = held.operation;
 }

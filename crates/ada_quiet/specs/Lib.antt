@@ -4,7 +4,7 @@
 pub mod Quiet
 -- types for whose objects no operation is called that touches storage
 pub mod Calm
--- access types whose objects have no controlled parts, and components of access types
+-- access types whose objects have no controlled parts
 pub mod Bare
 -- programs that call no operation
 pub mod Idle
@@ -14,8 +14,6 @@ pub mod Frugal
 pub mod Simple
 -- procedures that override an Adjust which tracks stand apart
 pub mod Apart
--- components of records that free objects
-pub mod Releases
 -- what is in use
 pub mod InUse
 -- what frugal bodies go by, and marks and numbers of types, as the code holds them

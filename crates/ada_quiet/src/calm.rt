@@ -6,12 +6,12 @@ ghost use Rattle.std.specs.List.{list_all};
 ghost use Rattle.std.specs.Option.{option_copied, option_map};
 ghost use Rattle.ada_program.specs.Kept.{types_in};
 ghost use Rattle.ada_program.specs.ProgramForm.{part_form, type_form};
-ghost use Rattle.ada_program.specs.WellFormed.{finalization_in, overrides_nothing};
+ghost use Rattle.ada_program.specs.WellFormed.{finalization_in};
 ghost use Rattle.ada_quiet.specs.Calm as rules;
 
 use crate::marks::has_mark;
 use crate::numbered::numbered_types;
-use crate::operations::{finalization_in, overrides_nothing};
+use crate::operations::{finalization_in, inherits};
 use ada_program::parts::finalization_of;
 use ada_program::program::{Finalization, Part, PartKind, TypeDefinition};
 use std::alloc::{AllocError, Global};
@@ -70,36 +70,42 @@ fn is_calm_type(
     }
 }
 
-/// Whether a type that was found is a record type that is inert. Linear in its components.
-fn is_inert_found(
+/// Whether a type that was found is a record type that inherits Finalize, or Adjust, as is asked, and so does each part of it. Linear in
+/// its components.
+fn is_inheriting_found(
+    finalize: bool,
     types: &[TypeDefinition],
-    inert: &[bool],
+    inheriting: &[bool],
     definition: Option<&TypeDefinition>,
 ) -> bool
-    ensures { result ≡ rules.is_calm_found (λ t. overrides_nothing (finalization_in (Some t)))
-        (types_in types.now) inert.now (option_map type_form (option_copied definition.entry)) }
+    ensures { result ≡ rules.is_calm_found (λ t. rules.inherits finalize (finalization_in (Some t)))
+        (types_in types.now) inheriting.now (option_map type_form (option_copied definition.entry)) }
 {
     let Some(definition) = definition else {
         return false;
     };
-    let own = overrides_nothing(finalization_in(definition));
-    is_calm_type(own, types, inert, definition)
+    let own = inherits(finalize, finalization_in(definition));
+    is_calm_type(own, types, inheriting, definition)
 }
 
-/// Of each record type with controlled parts, by its number among these, whether it is inert: no operation of it is overridden, nor one of
-/// a part of it, so where values of it begin and end, nothing is called (7.6). The types of its components have lesser numbers. Linear in
-/// the types and their components.
+/// Of each record type with controlled parts, by its number among these, whether Finalize, or Adjust, as is asked, is overridden neither of
+/// it nor of a part of it: then nothing is called where values of it end, or where a copy of one is adjusted (7.6). The types of its
+/// components have lesser numbers. Linear in the types and their components.
 ///
 /// # Errors
 /// `AllocError` where memory was refused.
-pub(crate) fn inert_types(alloc: Global, types: &[TypeDefinition]) -> Result<Vec<bool>, AllocError>
-    ensures { IfOk result (λ inert. inert.items ≡ rules.inert_types (types_in types.now)) }
+pub(crate) fn inheriting_types(
+    alloc: Global,
+    finalize: bool,
+    types: &[TypeDefinition],
+) -> Result<Vec<bool>, AllocError>
+    ensures { IfOk result (λ inheriting. inheriting.items ≡ rules.inheriting_types finalize (types_in types.now)) }
 {
     let numbered = numbered_types(alloc, types)?;
-    let mut inert = Vec::new(alloc);
+    let mut inheriting = Vec::new(alloc);
     'numbered: for definition in &numbered {
-        let is_inert = is_inert_found(types, &inert, *definition);
-        inert.push(is_inert)?;
+        let is_inheriting = is_inheriting_found(finalize, types, &inheriting, *definition);
+        inheriting.push(is_inheriting)?;
     }
-    Ok(inert)
+    Ok(inheriting)
 }

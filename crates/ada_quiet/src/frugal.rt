@@ -1,7 +1,7 @@
 //! Declarations, statements and bodies, where they are frugal: they allocate, move, follow and free objects (4.8, 13.11.2), assign records
 //! without controlled parts, and in operations inert ones that lie at hand (5.2), call procedures with frugal bodies alone (6.4), and
-//! declare variables, and record objects whose components, at any depth, name objects of collections that the main procedure declares. What
-//! has controlled parts of these objects, and of what they allocate, is initialized by default (3.3.1, 7.6).
+//! declare variables, and record objects. What has controlled parts of these objects is initialized by default, or is a copy for which no
+//! Adjust is called (3.3.1, 7.6); and of what they allocate, by default.
 
 ghost use Rattle.std.specs.Prelude.{◌≡◌, ◌&&◌, false, [], map, slice_index_or, IfOk};
 ghost use Rattle.ada_program.specs.Form.{StmtsForm, assigns_record, branches_form, declaration_form, handlers_form, initial_form, item_form, record_path_form, right_form, stmt_form, stmts_form};
@@ -9,13 +9,12 @@ ghost use Rattle.ada_program.specs.Kept.{types_in};
 ghost use Rattle.ada_program.specs.ProgramForm.{body_form, program_form};
 ghost use Rattle.ada_quiet.specs.Calm as calm;
 ghost use Rattle.ada_quiet.specs.Frugal as rules;
-ghost use Rattle.ada_quiet.specs.Known.{marked_in, thrift_in};
+ghost use Rattle.ada_quiet.specs.Known.{thrift_in};
 
 use crate::apart::are_bare_items;
 use crate::bare::has_bare_objects;
-use crate::calm::{inert_types, is_known_calm};
+use crate::calm::{inheriting_types, is_known_calm};
 use crate::idle::holds_parts;
-use crate::outermost::{outermost_collections, record_nests};
 use ada_effects::record_path_raises;
 use ada_program::parts::finalization_of;
 use ada_program::program::{
@@ -29,10 +28,11 @@ use std::alloc::{AllocError, Global};
 struct Thrift<'a> {
     /// The types of the program.
     types: &'a [TypeDefinition],
-    /// Marks of the access types whose collections the main procedure declares.
-    outermost: &'a [bool],
-    /// Of each record type with controlled parts, by its number among these, whether it is inert.
-    inert: &'a [bool],
+    /// Of each record type with controlled parts, by its number among these, whether it overrides no Adjust, neither itself nor in a part
+    /// of it (7.6).
+    unadjusted: &'a [bool],
+    /// And whether it overrides no Finalize so.
+    unfinalized: &'a [bool],
     /// Of each procedure that is known, by its number, whether its body is frugal where it is called.
     procedures: &'a [bool],
     /// Whether the body is that of an operation (7.6).
@@ -66,10 +66,16 @@ fn is_bare_initial(types: &[TypeDefinition], object: TypeNo, items: &[Item]) -> 
     !holds_parts(types, object.0) && are_bare_items(types, items)
 }
 
-/// Whether a record object is of a type that is known to be inert: then nothing is called as it is adjusted (7.6), nor as its master is
-/// left (7.6.1).
-fn is_inert_initial(thrift: Thrift<'_>, object: TypeNo) -> bool
-    ensures { result ≡ rules.is_inert_initial (thrift_in thrift.entry) object.0 }
+/// Whether it is known of a record type that nothing is called as an object is adjusted (7.6).
+fn is_unadjusted(thrift: Thrift<'_>, record: TypeNo) -> bool
+    ensures { result ≡ rules.is_unadjusted (thrift_in thrift.entry) record.0 }
+{
+    is_known_calm(thrift.unadjusted, finalization_of(thrift.types, record.0))
+}
+
+/// Whether a record object is of a type of which it is known that nothing is called as it is adjusted (7.6).
+fn is_unadjusted_initial(thrift: Thrift<'_>, object: TypeNo) -> bool
+    ensures { result ≡ rules.is_unadjusted_initial (thrift_in thrift.entry) object.0 }
 {
     match thrift.types.get(object.0) {
         Some(
@@ -78,16 +84,14 @@ fn is_inert_initial(thrift: Thrift<'_>, object: TypeNo) -> bool
                 designated,
                 pool: _,
             },
-        ) => is_known_calm(thrift.inert, finalization_of(thrift.types, designated.0)),
-        Some(TypeDefinition::Object { record }) => {
-            is_known_calm(thrift.inert, finalization_of(thrift.types, record.0))
-        }
+        ) => is_unadjusted(thrift, *designated),
+        Some(TypeDefinition::Object { record }) => is_unadjusted(thrift, *record),
         _ => false,
     }
 }
 
 /// Whether a declaration is that of a variable, and so it is with what that is given at first (3.3.1), or that of a record object that is
-/// initialized by default, or may get its initial value, and whose components name objects of outermost collections alone.
+/// initialized by default, or may get its initial value.
 fn is_frugal_declaration(thrift: Thrift<'_>, declaration: &Declaration) -> bool
     ensures { result ≡ rules.is_frugal_declaration (thrift_in thrift.entry) (declaration_form declaration.now) }
 {
@@ -98,18 +102,15 @@ fn is_frugal_declaration(thrift: Thrift<'_>, declaration: &Declaration) -> bool
         } => initial_allocates_frugally(thrift, initial),
         Declaration::Record {
             variable: _,
-            object,
+            object: _,
             initial: None,
-        } => record_nests(thrift.types, thrift.outermost, *object),
+        } => true,
         Declaration::Record {
             variable: _,
             object,
             initial: Some(items),
-        } => {
-            record_nests(thrift.types, thrift.outermost, *object)
-                && (is_bare_initial(thrift.types, *object, items)
-                    || is_inert_initial(thrift, *object))
-        }
+        } => is_bare_initial(thrift.types, *object, items)
+            || is_unadjusted_initial(thrift, *object),
         Declaration::Pool(_) | Declaration::Collection(_) => false,
     }
 }
@@ -136,6 +137,15 @@ fn is_frugal_call(frugal: &[bool], procedure: ProcedureNo) -> bool
     }
 }
 
+/// Whether a record type is inert: nothing is called as a value of it ends to which another record is assigned, nor as that is adjusted
+/// then (5.2, 7.6).
+fn is_inert(thrift: Thrift<'_>, record: TypeNo) -> bool
+    ensures { result ≡ rules.is_inert (thrift_in thrift.entry) record.0 }
+{
+    is_known_calm(thrift.unfinalized, finalization_of(thrift.types, record.0))
+        && is_unadjusted(thrift, record)
+}
+
 /// Whether the body is that of an operation, and a record with controlled parts that it assigns to as a whole (5.2) is inert, and lies at
 /// hand: in a record variable, and no access value is followed on the way (4.1). If that is the formal parameter, which is the first
 /// variable, it is not that as a whole.
@@ -143,10 +153,7 @@ fn assigns_at_hand(thrift: Thrift<'_>, target: &RecordPath) -> bool
     ensures { result ≡ rules.assigns_at_hand (thrift_in thrift.entry) (record_path_form target.now) }
 {
     let formal = target.object.root.0 == 0 && target.part.0 == 0;
-    thrift.operation
-        && is_known_calm(thrift.inert, finalization_of(thrift.types, target.record.0))
-        && !record_path_raises(target)
-        && !formal
+    thrift.operation && is_inert(thrift, target.record) && !record_path_raises(target) && !formal
 }
 
 /// Whether a record that is assigned to as a whole lies so, if it has controlled parts; and else whether nothing is copied into it that
@@ -252,8 +259,7 @@ fn are_frugal_handlers(thrift: Thrift<'_>, handlers: &[Handler]) -> bool
 
 /// Whether a body is frugal: it allocates objects, moves, follows and frees; it calls procedures with frugal bodies alone, assigns records
 /// with controlled parts as wholes only where these are inert and lie at hand, and it is that of an operation, gives values to the
-/// components of no new one, and declares variables, and record objects whose components name objects of outermost collections alone. An
-/// exception may come out of it. Linear in the body.
+/// components of no new one, and declares variables and record objects. An exception may come out of it. Linear in the body.
 fn is_frugal_body(thrift: Thrift<'_>, procedure: &Procedure) -> bool
     ensures { result ≡ rules.is_frugal_body (thrift_in thrift.entry) (body_form procedure.now) }
 {
@@ -262,27 +268,28 @@ fn is_frugal_body(thrift: Thrift<'_>, procedure: &Procedure) -> bool
         && are_frugal_handlers(thrift, &procedure.handlers)
 }
 
-/// Of each procedure, by its number, whether its body is frugal where it is called, where these access types are outermost, and these types
-/// inert: it calls those before it. Linear in the bodies.
+/// Of each procedure, by its number, whether its body is frugal where it is called, where these types override no Adjust, and these no
+/// Finalize: it calls those before it. Linear in the bodies.
 ///
 /// # Errors
 /// `AllocError` where memory was refused.
 fn frugal_by(
     alloc: Global,
     program: &Program,
-    outermost: &[bool],
-    inert: &[bool],
+    unadjusted: &[bool],
+    unfinalized: &[bool],
 ) -> Result<Vec<bool>, AllocError>
-    requires { inert.now ≡ calm.inert_types (program_form program.now).types }
+    requires adjusted { unadjusted.now ≡ calm.unadjusted_types (program_form program.now).types }
+    requires finalized { unfinalized.now ≡ calm.unfinalized_types (program_form program.now).types }
     ensures { IfOk result (λ frugal. frugal.items
-        ≡ rules.frugal_from (program_form program.now).types (marked_in outermost.now) [] (program_form program.now).bodies) }
+        ≡ rules.frugal_from (program_form program.now).types [] (program_form program.now).bodies) }
 {
     let mut frugal = Vec::new(alloc);
     'procedures: for procedure in &program.procedures {
         let thrift = Thrift {
             types: &program.types,
-            outermost,
-            inert,
+            unadjusted,
+            unfinalized,
             procedures: &frugal,
             operation: false,
         };
@@ -319,13 +326,13 @@ fn are_frugal_bodies(
 pub(crate) fn frugal_operations(alloc: Global, program: &Program) -> Result<Vec<bool>, AllocError>
     ensures { IfOk result (λ frugal. frugal.items ≡ rules.frugal_operations (program_form program.now)) }
 {
-    let outermost = outermost_collections(alloc, program)?;
-    let inert = inert_types(alloc, &program.types)?;
-    let procedures = frugal_by(alloc, program, &outermost, &inert)?;
+    let unadjusted = inheriting_types(alloc, false, &program.types)?;
+    let unfinalized = inheriting_types(alloc, true, &program.types)?;
+    let procedures = frugal_by(alloc, program, &unadjusted, &unfinalized)?;
     let thrift = Thrift {
         types: &program.types,
-        outermost: &outermost,
-        inert: &inert,
+        unadjusted: &unadjusted,
+        unfinalized: &unfinalized,
         procedures: &procedures,
         operation: true,
     };

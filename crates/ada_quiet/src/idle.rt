@@ -219,7 +219,7 @@ fn text_makes_parts(copies: bool, program: &Program) -> bool
 
 /// Whether something in the text of a program creates an object with controlled parts (3.3.1, 4.8), or assigns a record with some
 /// (5.2): where nothing does, no operation of a controlled type is called. Linear in all bodies.
-pub fn makes_parts(program: &Program) -> bool
+pub(crate) fn makes_parts(program: &Program) -> bool
     ensures { result ≡ rules.makes_parts (program_form program.now) }
 {
     text_makes_parts(false, program)

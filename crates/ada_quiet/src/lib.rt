@@ -1,16 +1,16 @@
 //! Plain and quiet operations: those procedures that override Initialize, Adjust or Finalize of a controlled type (7.6), read and write
 //! Integers and Booleans alone, and call nothing, are plain; and quiet, where they let no exception out. An Initialize, a Finalize or an
 //! Adjust that is never called is frugal that allocates, moves, follows and frees objects, and calls procedures with frugal bodies, but
-//! assigns a record with controlled parts as a whole only as below, and declares variables, which may be given what it allocates, and record
-//! objects whose components, at any depth, name objects of collections that the main procedure declares (3.10.2), those with controlled
-//! parts by default (3.3.1). The body of an operation may assign to a record with controlled parts as a whole that is inert, so that nothing
-//! is called, and that lies in a component of the formal parameter (5.2, 7.6); no access value is followed to it. What a frugal body frees
-//! may have controlled parts, whichever operation it is (13.11.2): the operations that end these run inside. So may what it declares, and
-//! what it allocates that is initialized by default (4.8, 7.6): the operations that begin these run inside as well, and those that end
-//! declared ones where their master is left. That a Finalize allocates is not refused here, but by rule S10. That what the declarations of
-//! bodies create comes back to none of them is asked by `ada_circles`. An exception may come out of a frugal Initialize; that none comes
-//! out of an Adjust or a Finalize, `ada_operations` asks of a program before. Which procedures are frugal is found before any operation is
-//! asked, in the order in which they call each other.
+//! assigns a record with controlled parts as a whole only as below, and declares variables, which may be given what it allocates, and
+//! record objects, those with controlled parts by default, or as copies for which no Adjust is called (3.3.1, 7.6). The body of an
+//! operation may assign to a record with controlled parts as a whole that is inert, so that nothing is called, and that lies in a component
+//! of the formal parameter (5.2, 7.6); no access value is followed to it. What a frugal body frees may have controlled parts, whichever
+//! operation it is (13.11.2): the operations that end these run inside. So may what it declares, and what it allocates that is initialized
+//! by default (4.8, 7.6): the operations that begin these run inside as well, and those that end declared ones where their master is left.
+//! That a Finalize allocates is not refused here, but by rule S10. That what the declarations of bodies create comes back to none of them
+//! is asked by `ada_circles`. An exception may come out of a frugal Initialize; that none comes out of an Adjust or a Finalize,
+//! `ada_operations` asks of a program before. Which procedures are frugal is found before any operation is asked, in the order in which
+//! they call each other.
 //!
 //! Where nothing in the text of a program creates an object with controlled parts (3.3.1, 4.8), or assigns a record with some (5.2), no
 //! operation is called: operations are idle, and each is in use, whatever its body does. Where nothing in it copies such a record, no
@@ -31,9 +31,7 @@
 //!
 //! Variables and components free objects (13.11.2), whatever runs where these end. While an object is finalized that is freed, no component
 //! names it but the one that frees it, if one does; and nothing that runs there comes to the object in which that component lies:
-//! an allocated one by `SparesHolders`, which `ada_verdict` asks of a program besides, and a declared one is named by no access value.
-//! `first_freed_inside` finds the first component in the text that frees an object of certain access types, and lies in a declared record
-//! object, or in one for which a formal parameter stands.
+//! an allocated one by rule S6, which `ada_flow` asks, and a declared one is named by no access value.
 //!
 //! In all these programs operations are to stand apart. No procedure that overrides an Adjust of a type with a component of an access
 //! type, declared in it directly, is called or overrides another operation: so it runs nowhere else. And no allocator gives values to
@@ -54,11 +52,10 @@
 //! and do so where nothing is freed. Where each record has at most one controlled part, none is left to be adjusted later.
 //!
 //! A program with another body is refused (F23), since no theorem covers it so far: an Initialize, an Adjust or a Finalize that touches
-//! storage in another program, gives values to the components of objects with controlled parts that it allocates, declares records with a
-//! component of an access type that a block or a procedure declares, or with an initial value, or assigns other records with such parts, an
-//! Adjust that tracks and frees objects with controlled parts, one that touches storage beside one that tracks, operations that call
-//! procedures that are not frugal, and an Adjust that tracks and calls, assigns to records as a whole, copies records out of its own object,
-//! or frees objects where a record has two controlled parts.
+//! storage in another program, gives values to the components of objects with controlled parts that it allocates, declares other records
+//! with an initial value, or assigns other records with such parts, an Adjust that tracks and frees objects with controlled parts, one that
+//! touches storage beside one that tracks, operations that call procedures that are not frugal, and an Adjust that tracks and calls,
+//! assigns to records as a whole, copies records out of its own object, or frees objects where a record has two controlled parts.
 #![tactic(auto)]
 
 mod apart;
@@ -72,8 +69,6 @@ pub mod laws;
 mod marks;
 mod numbered;
 mod operations;
-mod outermost;
-mod releases;
 mod simple;
 mod statements;
 mod tracking;
@@ -81,8 +76,4 @@ mod uses;
 mod values;
 
 pub use crate::first::{first_of, first_unused, start_unless};
-pub use crate::idle::makes_parts;
-pub use crate::marks::mark;
 pub use crate::operations::operations_are_quiet;
-pub use crate::releases::first_freed_inside;
-pub use crate::uses::may_be_frugal;

@@ -9,7 +9,7 @@ use std::alloc::AllocError;
 ///
 /// # Errors
 /// `AllocError` where memory was refused.
-pub fn mark(marks: &mut Vec<bool>, number: usize) -> Result<(), AllocError>
+pub(crate) fn mark(marks: &mut Vec<bool>, number: usize) -> Result<(), AllocError>
     ensures { OnOk result ((n : ℕ) → is_marked marks.new.items n ≡ (is_marked marks.old.items n || number == n)) }
 {
     match marks.get_mut(number) {

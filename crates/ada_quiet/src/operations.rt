@@ -5,6 +5,7 @@ ghost use Rattle.std.specs.List.{list_any, slice_get};
 ghost use Rattle.ada_program.specs.Kept.{types_in};
 ghost use Rattle.ada_program.specs.ProgramForm.{ProgramForm, part_form, program_form, type_form};
 ghost use Rattle.ada_program.specs.WellFormed as fits;
+ghost use Rattle.ada_quiet.specs.Calm as calm;
 ghost use Rattle.ada_quiet.specs.Frugal as spent;
 ghost use Rattle.ada_quiet.specs.Quiet as rules;
 ghost use Rattle.ada_quiet.specs.Simple as simple;
@@ -164,15 +165,19 @@ pub(crate) fn finalization_in(definition: &TypeDefinition) -> Option<Finalizatio
     }
 }
 
-/// Whether a type overrides no operation.
-pub(crate) fn overrides_nothing(finalization: Option<Finalization>) -> bool
-    ensures { result ≡ fits.overrides_nothing finalization }
+/// Whether a type inherits Finalize, or Adjust, as is asked: no body overrides it (7.6).
+pub(crate) fn inherits(finalize: bool, finalization: Option<Finalization>) -> bool
+    ensures { result ≡ calm.inherits finalize finalization }
 {
     match finalization {
         None => true,
-        Some(finalization) => finalization.operations.initialize.is_none()
-            && finalization.operations.adjust.is_none()
-            && finalization.operations.finalize.is_none(),
+        Some(finalization) => {
+            if finalize {
+                finalization.operations.finalize.is_none()
+            } else {
+                finalization.operations.adjust.is_none()
+            }
+        }
     }
 }
 

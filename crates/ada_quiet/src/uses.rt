@@ -20,7 +20,7 @@ use std::alloc::{AllocError, Global};
 ///
 /// # Errors
 /// `AllocError` where memory was refused.
-pub fn may_be_frugal(alloc: Global, program: &Program) -> Result<bool, AllocError>
+pub(crate) fn may_be_frugal(alloc: Global, program: &Program) -> Result<bool, AllocError>
     ensures { IfOk result (λ answer. answer ≡ rules.may_be_frugal (program_form program.now)) }
 {
     operations_stand_apart(alloc, program)

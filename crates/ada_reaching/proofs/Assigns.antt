@@ -16,7 +16,7 @@ use Rattle.ada_meaning.specs.Step.{moves, at, operands, newest_ones, without_new
 use Rattle.ada_meaning.specs.Named.{State, named, look, filled, store, an_integer}
 use Rattle.ada_untouched.specs.Untouched.{IsInSight}
 use Rattle.ada_reaching.specs.Reaching.{IsElsewhere}
-use Rattle.ada_reaching.specs.Forms.{may_follow, record_path_shuns, selectors_shun, item_shuns, right_shuns}
+use Rattle.ada_reaching.specs.Forms.{may_follow, may_replace, record_path_shuns, selectors_shun, item_shuns, right_shuns}
 use Rattle.ada_reaching.proofs.Elsewhere.{elsewhere_drop}
 use Rattle.ada_reaching.proofs.Going.{World, variables_in, Goes, ValueSeeks, operands_run, changed_run, stored_run, stays, jumps, put_runs}
 use Rattle.ada_reaching.proofs.Paths.{Sound, in_sight, holder_goes, record_goes}
@@ -74,7 +74,7 @@ module _ (w : World) where
   -- The bodies go on as a record is assigned to another one that has controlled parts, and may be assigned to so (7.6).
   copied_goes :
       (target : RecordPathForm) (items : List ItemForm) (s : State) → record_path_shuns w.p.types w.shuns w.apart (variables_in w) target ≡ true
-      → list_all (item_shuns w.p.types w.shuns w.apart (variables_in w)) items ≡ true → w.apart.assigns target.record_type ≡ true
+      → list_all (item_shuns w.p.types w.shuns w.apart (variables_in w)) items ≡ true → may_replace w.apart target.record_type ≡ true
       → Goes w s (copy_next named target items s)
   copied_goes target (item_of_record source ∷ []) s leads all may r h anew =
       let one = and_parts (record_path_shuns w.p.types w.shuns w.apart (variables_in w) source) true all in
@@ -85,7 +85,7 @@ module _ (w : World) where
   -- The bodies go on as an assignment to a record begins that has no controlled parts, or may be assigned to though it has some.
   pub record_assign_goes :
       (parts : Bool) (target : RecordPathForm) (to : VariableKind) (items : List ItemForm) (s : State)
-      → (parts ≡ false) ⊎ (w.apart.assigns target.record_type ≡ true) → Sound w s
+      → (parts ≡ false) ⊎ (may_replace w.apart target.record_type ≡ true) → Sound w s
       → record_path_shuns w.p.types w.shuns w.apart (variables_in w) target ≡ true
       → IsRooted w.p.types (variables_in w) target.object.root target.object.selectors to
       → selectors_shun w.p.types w.shuns (variable_kind (variables_in w) target.object.root) target.object.selectors ≡ true

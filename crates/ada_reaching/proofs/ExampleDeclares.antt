@@ -75,6 +75,7 @@ beside = record {
   ends = λ t. t == 5;
   starts = λ t. t == 5;
   assigns = λ r. false;
+  copies = λ r. false;
   definitions = declared_types;
 }
 
@@ -105,7 +106,8 @@ both_apart shunned one other = record {
     finalizes = λ access of part number tasks ends left overrides. ap beside.calls (overrides_third of number overrides);
     initializes = λ access of part number starts begun overrides. absurd (initializes_none of number overrides);
     undoes = λ access of part number starts begun overrides. ap beside.calls (overrides_third of number overrides);
-    assigns_quietly = λ direction record_type of part tasks assigned left. absurd (cc assigned);
+    assigns_quietly = λ record_type of part tasks assigned left. absurd (cc assigned);
+    copies_quietly = λ record_type of part tasks copied left. absurd (cc copied);
   };
 }
 

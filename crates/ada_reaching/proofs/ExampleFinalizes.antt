@@ -97,6 +97,7 @@ beside = record {
   ends = λ access. access == 3;
   starts = λ access. false;
   assigns = λ r. false;
+  copies = λ r. false;
   definitions = box_types;
 }
 
@@ -130,7 +131,8 @@ both_apart shunned one other = record {
     finalizes = λ access of part number tasks ends left overrides. ap beside.calls (overrides_third of number overrides);
     initializes = λ access of part number starts begun overrides. absurd (cc starts);
     undoes = λ access of part number starts begun overrides. absurd (cc starts);
-    assigns_quietly = λ direction record_type of part tasks assigned left. absurd (cc assigned);
+    assigns_quietly = λ record_type of part tasks assigned left. absurd (cc assigned);
+    copies_quietly = λ record_type of part tasks copied left. absurd (cc copied);
   };
 }
 

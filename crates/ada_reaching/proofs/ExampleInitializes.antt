@@ -101,6 +101,7 @@ beside = record {
   ends = λ access. false;
   starts = λ access. access == 3;
   assigns = λ r. false;
+  copies = λ r. false;
   definitions = box_types;
 }
 
@@ -143,7 +144,8 @@ both_apart shunned one other = record {
     finalizes = λ access of part number tasks ends left overrides. absurd (cc ends);
     initializes = λ access of part number starts begun overrides. ap beside.calls (overrides_third of number overrides);
     undoes = λ access of part number starts begun overrides. absurd (finalizes_none of number overrides);
-    assigns_quietly = λ direction record_type of part tasks assigned left. absurd (cc assigned);
+    assigns_quietly = λ record_type of part tasks assigned left. absurd (cc assigned);
+    copies_quietly = λ record_type of part tasks copied left. absurd (cc copied);
   };
 }
 

@@ -162,7 +162,7 @@ shuns access = access == 1
 
 -- They call the first procedure alone, and free and allocate no object with controlled parts,
 abbrev pub apart : List TypeDefinition → Apart
-apart definitions = record { calls = λ procedure. procedure == 0; ends = λ access. false; starts = λ access. false; assigns = λ r. false; definitions = definitions }
+apart definitions = record { calls = λ procedure. procedure == 0; ends = λ access. false; starts = λ access. false; assigns = λ r. false; copies = λ r. false; definitions = definitions }
 
 -- What is found is the one body that does so,
 pub found_shuns :
@@ -185,7 +185,8 @@ calls_first p definitions own own_is shunned does = record {
     finalizes = λ access of part number tasks ends left overrides. absurd (cc ends);
     initializes = λ access of part number starts begun overrides. absurd (cc starts);
     undoes = λ access of part number starts begun overrides. absurd (cc starts);
-    assigns_quietly = λ direction record_type of part tasks assigned left. absurd (cc assigned);
+    assigns_quietly = λ record_type of part tasks assigned left. absurd (cc assigned);
+    copies_quietly = λ record_type of part tasks copied left. absurd (cc copied);
   };
 }
 

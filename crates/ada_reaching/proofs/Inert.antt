@@ -1,11 +1,11 @@
--- For records of inert types nothing is called (7.6): no operation is overridden of such a type, nor of the type of a record that lies in one. So bodies that shun
--- some access types may assign to these as wholes (5.2).
+-- For records of some types nothing is called as they are adjusted, or as they end (7.6): no Adjust, or no Finalize, is overridden of such a type, nor of the type
+-- of a record that lies in one. So bodies that shun some access types may assign to these as wholes (5.2), and declare copies (3.3.1).
 
 use Rattle.std.proofs.Common.{◌≡◌, ℕ, zero, suc, ◌+◌, ◌==◌, ◌&&◌, Bool, true, false, if◌then◌else◌, List, [], ◌∷◌, ◌++◌, length, map, Option, Some, None, refl, sym, ap, ◌∙◌, subst}
 use Rattle.std.specs.Prelude.{count_by}
 use Rattle.std.specs.List.{remove, slice_get}
 use Rattle.std.specs.Option.{option_map}
-use Rattle.std.proofs.lemmas.Bool.{and_parts, eqb-true}
+use Rattle.std.proofs.lemmas.Bool.{eqb-true}
 use Rattle.std.proofs.lemmas.Option.{slice_get-map}
 use Rattle.ada_parts.specs.declared.tasks.Component.{Component}
 use Rattle.ada_parts.specs.declared.tasks.Direction.{Direction}
@@ -25,14 +25,14 @@ use Rattle.ada_program.specs.declared.program.TypeNo.{TypeNo}
 use Rattle.ada_program.specs.Controlled.{components_with_parts, has_parts, if_parts, number_of, operations_of, parts_by, procedure_number, shape_by, shapes_of, shapes_up_to, type_numbered, with_parts}
 use Rattle.ada_program.specs.ProgramForm.{PartForm, TypeForm, record_of, part_form, program_form, type_form}
 use Rattle.ada_program.specs.Walks.{Walks, ends}
-use Rattle.ada_program.specs.WellFormed.{IsWellFormed, finalization_in, finalization_of, is_inherited, overrides_nothing}
+use Rattle.ada_program.specs.WellFormed.{IsWellFormed, finalization_in, finalization_of, is_inherited}
 use Rattle.ada_program.proofs.Shapes.{same_number, shapes_length}
 use Rattle.ada_program.proofs.Walks.{one_step, walks_on}
 use Rattle.ada_meaning.proofs.Places.{is_declared, known, numbers_are_alone, types_have_their_operations}
 use Rattle.ada_meaning.specs.Step.{member_at, picked_task, tasks_in}
-use Rattle.ada_quiet.specs.Calm.{inert_types, is_known_calm}
+use Rattle.ada_quiet.specs.Calm.{inheriting_types, inherits, is_known_calm, unadjusted_types, unfinalized_types}
 use Rattle.ada_quiet.proofs.CalmTypes.{calm_is_told_within}
-use Rattle.ada_reaching.specs.Apart.{CallsNothing, IsLeftIn, whole_in, picked_in, called_in}
+use Rattle.ada_reaching.specs.Apart.{IsLeftIn, whole_in, picked_in, called_in}
 
 -- Numbers of types with controlled parts, of which something holds.
 module _ (P : ℕ → Type 0) where
@@ -172,20 +172,15 @@ none_called : (o : Option ProcedureNo) → is_inherited o ≡ true → procedure
 none_called None inherited = refl
 none_called (Some procedure) inherited = absurd (cc)
 
--- A type calls nothing that overrides nothing.
-calls_none : (f : Finalization) → overrides_nothing (Some f) ≡ true → CallsNothing f.operations
-calls_none f nothing =
-    let initialize = is_inherited f.operations.initialize in
-    let adjust = is_inherited f.operations.adjust in
-    let three = and_parts (initialize && adjust) (is_inherited f.operations.finalize) nothing in
-    let two = and_parts initialize adjust three.0 in
-    record {
-      no_initialize = none_called f.operations.initialize two.0;
-      no_adjust = none_called f.operations.adjust two.1;
-      no_finalize = none_called f.operations.finalize three.1;
-    }
+-- Nothing is called where a value ends, or where a copy is adjusted, as is asked.
+abbrev CallsNone : (finalize : Bool) → Operations → Type 0
+CallsNone finalize operations = procedure_number (if finalize then operations.finalize else operations.adjust) ≡ None
 
-module _ (program : Program) (well : IsWellFormed (program_form program)) where
+-- So it is with a type that inherits that operation.
+calls_none : (finalize : Bool) (f : Finalization) → inherits finalize (Some f) ≡ true → CallsNone finalize f.operations
+calls_none finalize f nothing = none_called (if finalize then f.operations.finalize else f.operations.adjust) nothing
+
+module _ (finalize : Bool) (program : Program) (well : IsWellFormed (program_form program)) where
   abbrev types : List TypeDefinition
   types = program.types.items
 
@@ -193,25 +188,25 @@ module _ (program : Program) (well : IsWellFormed (program_form program)) where
   forms = map type_form program.types.items
 
   abbrev own : TypeForm → Bool
-  own form = overrides_nothing (finalization_in (Some form))
+  own form = inherits finalize (finalization_in (Some form))
 
-  -- A record type is inert.
+  -- A record type is so, and so is each of a record that lies in one of it.
   abbrev IsInert : ℕ → Type 0
-  IsInert t = is_known_calm (inert_types forms) (finalization_of forms t) ≡ true
+  IsInert t = is_known_calm (inheriting_types finalize forms) (finalization_of forms t) ≡ true
 
   -- The type of a number among those with controlled parts is.
   abbrev HasInert : ℕ → Type 0
   HasInert n = (t : ℕ) × (number_of types (Some t) ≡ Some n) × IsInert t
 
-  -- The record types are inert that lie in records of an inert one (3.8).
+  -- The record types are so that lie in records of such a one (3.8).
   inert_within :
       (t : ℕ) (f : Finalization) → finalization_of forms t ≡ Some f → IsInert t → (u first part : ℕ) (form : TypeForm) → Walks forms t first part u
       → slice_get forms u ≡ Some form → own form ≡ true
   inert_within t f is inert =
-      (calm_is_told_within (program_form program) own well t f is).0 (subst (λ (o : Option Finalization). is_known_calm (inert_types forms) o ≡ true) is inert)
+      (calm_is_told_within (program_form program) own well t f is).0 (subst (λ (o : Option Finalization). is_known_calm (inheriting_types finalize forms) o ≡ true) is inert)
 
   -- So nothing is called for one.
-  inert_calls : (n : ℕ) → HasInert n → CallsNothing (operations_of types n)
+  inert_calls : (n : ℕ) → HasInert n → CallsNone finalize (operations_of types n)
   inert_calls n (t, numbered, inert) =
       let d = is_declared program t n numbered in
       let form = record_of d.declares.0 d.ps d.declares.1 (Some d.f) in
@@ -219,10 +214,10 @@ module _ (program : Program) (well : IsWellFormed (program_form program)) where
       λ u is. numbers_are_alone program u t n well (is ∙ ap (λ (m : ℕ). Some m) d.numbered) numbered in
       let operations : operations_of types n ≡ d.f.operations =
       ap (operations_of types) (sym d.numbered) ∙ types_have_their_operations program t d.ps d.f d.declares alone in
-      subst (λ (o : Operations). CallsNothing o) (sym operations)
-      (calls_none d.f (inert_within t d.f (ap finalization_in d.declares.2) inert t 0 0 form ends d.declares.2))
+      subst (λ (o : Operations). CallsNone finalize o) (sym operations)
+      (calls_none finalize d.f (inert_within t d.f (ap finalization_in d.declares.2) inert t 0 0 form ends d.declares.2))
 
-  -- The types of its declared components with controlled parts are inert.
+  -- The types of its declared components with controlled parts are so.
   inert_parts : (n : ℕ) → HasInert n → HoldsIn HasInert types (parts_by (type_numbered types n))
   inert_parts n (t, numbered, inert) =
       let d = is_declared program t n numbered in
@@ -240,7 +235,7 @@ module _ (program : Program) (well : IsWellFormed (program_form program)) where
       (λ u first part form walks there.
       within u ((part_form q).first + first) ((part_form q).part + part) form
       (walks_on forms t (part_form q).first (part_form q).part v.0 first part u step walks) there) in
-      (v.0, number, subst (λ (o : Option Finalization). is_known_calm (inert_types forms) o ≡ true) (sym found) told))
+      (v.0, number, subst (λ (o : Option Finalization). is_known_calm (inheriting_types finalize forms) o ≡ true) (sym found) told))
 
   inert_components : (n : ℕ) → HasInert n → Each HasInert (shape_of (shapes_of types) n).components
   inert_components n inert = each_shape HasInert types n (inert_parts n inert) (count_by has_parts types)
@@ -257,10 +252,18 @@ module _ (program : Program) (well : IsWellFormed (program_form program)) where
       in_picked HasInert (shapes_of types) inert_components direction tasks i (left_inert direction t inert left)
   left_inert direction t inert (called_in {tasks = tasks} left) = in_performed HasInert tasks (left_inert direction t inert left)
 
--- Nothing is called for a part of a record of an inert type that is finalized or adjusted.
-pub inert_calls_nothing :
-    (program : Program) → IsWellFormed (program_form program) → (direction : Direction) (record_type of part : ℕ) (tasks : List Task)
-    → is_known_calm (inert_types (program_form program).types) (finalization_of (program_form program).types record_type) ≡ true
-    → IsLeftIn program.types.items direction record_type (performs of part ∷ tasks) → CallsNothing (operations_of program.types.items of)
-inert_calls_nothing program well direction record_type of part tasks inert left =
-    inert_calls program well of (left_inert program well direction record_type inert left).0
+-- No Adjust is called for a part of a record of such a type that is adjusted,
+pub unadjusted_calls_nothing :
+    (program : Program) → IsWellFormed (program_form program) → (record_type of part : ℕ) (tasks : List Task)
+    → is_known_calm (unadjusted_types (program_form program).types) (finalization_of (program_form program).types record_type) ≡ true
+    → IsLeftIn program.types.items PartsFirst record_type (performs of part ∷ tasks) → procedure_number (operations_of program.types.items of).adjust ≡ None
+unadjusted_calls_nothing program well record_type of part tasks inert left =
+    inert_calls false program well of (left_inert false program well PartsFirst record_type inert left).0
+
+-- and no Finalize for a part of one that is finalized.
+pub unfinalized_calls_nothing :
+    (program : Program) → IsWellFormed (program_form program) → (record_type of part : ℕ) (tasks : List Task)
+    → is_known_calm (unfinalized_types (program_form program).types) (finalization_of (program_form program).types record_type) ≡ true
+    → IsLeftIn program.types.items WholeFirst record_type (performs of part ∷ tasks) → procedure_number (operations_of program.types.items of).finalize ≡ None
+unfinalized_calls_nothing program well record_type of part tasks inert left =
+    inert_calls true program well of (left_inert true program well WholeFirst record_type inert left).0

@@ -23,7 +23,7 @@ use Rattle.ada_meaning.specs.Event.{Quiet}
 use Rattle.ada_quiet.specs.Idle.{holds_parts}
 use Rattle.ada_reaching.specs.Apart.{IsLeftIn, IsLeftOf, whole, whole_in}
 use Rattle.ada_reaching.specs.Reaching.{AssignsApart, InMasters, begins_anew}
-use Rattle.ada_reaching.specs.Forms.{may_assign, may_assign_named, may_fill, may_declare, may_own, may_follow, may_end, record_path_shuns, expression_shuns, condition_shuns, item_shuns, actual_shuns, declaration_shuns, declarations_shun, statement_shuns, statements_shun, branches_shun, handlers_shun}
+use Rattle.ada_reaching.specs.Forms.{may_assign, may_copy_named, may_replace, may_fill, may_declare, may_own, may_follow, may_end, record_path_shuns, expression_shuns, condition_shuns, item_shuns, actual_shuns, declaration_shuns, declarations_shun, statement_shuns, statements_shun, branches_shun, handlers_shun}
 use Rattle.ada_reaching.specs.Law.{AreApart, AllGoOn}
 use Rattle.ada_reaching.proofs.Going.{World, variables_in, IsRun, Runs, LeftIn, Left, On, Goes, created_run, stays, jumps, put_runs}
 use Rattle.ada_reaching.proofs.Masters.{InOwn, declares_in, entered_run, grown_left, height_run, own_in, owned_run}
@@ -177,8 +177,8 @@ module _ (w : World) where
 
   module _ (tds : List TypeDefinition) (known : map type_form tds ≡ w.p.types) (are_apart : AreApart w.p tds w.shuns w.apart) where
     -- A record that may be assigned to as a whole has no controlled parts, or is of a type of which this may be.
-    assignable : (t : ℕ) → may_assign w.p.types w.apart t ≡ true → (has_parts tds t ≡ false) ⊎ (w.apart.assigns t ≡ true)
-    assignable t may = elim (or_cases (not (is_some (finalization_of w.p.types t))) (w.apart.assigns t) may) [
+    assignable : (t : ℕ) → may_assign w.p.types w.apart t ≡ true → (has_parts tds t ≡ false) ⊎ (may_replace w.apart t ≡ true)
+    assignable t may = elim (or_cases (not (is_some (finalization_of w.p.types t))) (may_replace w.apart t) may) [
       | inl bare ↦ inl (bare_record tds w.p.types t known bare)
       | inr assigned ↦ inr assigned
     ]
@@ -253,14 +253,14 @@ module _ (w : World) where
     -- So may one that gets an initial value, and there is nothing to be done for it, or it is adjusted as what is assigned is.
     filled_owned : (t : ℕ) → may_fill w.p.types w.apart t ≡ true → may_own w.apart t ≡ true
     filled_owned t may =
-        let named = may_assign_named w.apart (object_named w.p.types (Some t)) in
+        let named = may_copy_named w.apart (object_named w.p.types (Some t)) in
         elim (or_cases (not (holds_parts w.p.types t)) (w.apart.ends t && named) may) [
           | inl bare ↦ bare_owned t bare
           | inr copied ↦ or_left (w.apart.ends t) (not (holds_parts (map type_form w.apart.definitions) t)) (and_parts (w.apart.ends t) named copied).0
         ]
 
     assigned_tasks :
-        (t : ℕ) (o : Option ℕ) → object_named w.p.types (Some t) ≡ o → may_assign_named w.apart o ≡ true
+        (t : ℕ) (o : Option ℕ) → object_named w.p.types (Some t) ≡ o → may_copy_named w.apart o ≡ true
         → AssignsApart w.apart PartsFirst (all_tasks tds t PartsFirst)
     assigned_tasks t None named may = absurd (cc may)
     assigned_tasks t (Some r) named may = record {
@@ -273,7 +273,7 @@ module _ (w : World) where
 
     filled_tasks : (t : ℕ) → may_fill w.p.types w.apart t ≡ true → (all_tasks tds t PartsFirst ≡ []) ⊎ AssignsApart w.apart PartsFirst (all_tasks tds t PartsFirst)
     filled_tasks t may =
-        let named = may_assign_named w.apart (object_named w.p.types (Some t)) in
+        let named = may_copy_named w.apart (object_named w.p.types (Some t)) in
         elim (or_cases (not (holds_parts w.p.types t)) (w.apart.ends t && named) may) [
           | inl bare ↦ inl (bare_object tds w.p.types t PartsFirst known bare)
           | inr copied ↦ inr (assigned_tasks t (object_named w.p.types (Some t)) refl (and_parts (w.apart.ends t) named copied).1)
@@ -329,7 +329,7 @@ module _ (w : World) where
         elim (filled_tasks t may) [
           | inl none ↦ untreated inner v (begins Copy []) (all_tasks tds t PartsFirst) so none (stays inner so runs behind anew)
           | inr adjusted ↦
-              let adjusts = begun_left inner v Copy [] (all_tasks tds t PartsFirst) s.control (new_in_sight w s.heap r.same words) (inr adjusted) behind anew in
+              let adjusts = begun_left inner v Copy [] (all_tasks tds t PartsFirst) s.control (new_in_sight w s.heap r.same words) (inr (tt, adjusted)) behind anew in
               stays inner (made named tds x t Copy values s) runs adjusts.0 adjusts.1
         ]
 

@@ -5,6 +5,7 @@
 use Rattle.std.proofs.Common.{◌≡◌, ℕ, Bool, true, false, not, if◌then◌else◌, List, [], ◌∷◌, length, map, Option, Some, None, refl, ap, subst, inl, inr}
 use Rattle.std.specs.Prelude.{◌==◌}
 use Rattle.std.specs.List.{slice_get}
+use Rattle.std.proofs.lemmas.Bool.{and_parts}
 use Rattle.ada_program.specs.declared.program.Exception.{Exception}
 use Rattle.ada_program.specs.declared.program.TypeDefinition.{TypeDefinition}
 use Rattle.ada_program.specs.declared.program.Operations.{Operations}
@@ -35,9 +36,9 @@ use Rattle.ada_meaning.specs.State.{Activation, counted}
 use Rattle.ada_meaning.specs.Step.{halts, moves, picks, at, computed, first_or, newest, numbered, operands, operands_of, assigns_next, record_tasks, treating, treated_on, picked_task, direction_of, beginning, with_operands, operation_next, part_reference, born_next, awaited_next, begun_next, undone, undo_next, ended_next, finalized_next, performed_next, treats_next}
 use Rattle.ada_meaning.specs.Named.{Object, State, named, base, part_base, whole, look, refer, treated, born_part, finalized_part, bear, finalize, parted}
 use Rattle.ada_untouched.specs.Untouched.{IsInSight}
-use Rattle.ada_reaching.specs.Apart.{AreBegunIn, AreUndoneIn, CallsNothing, IsBegunIn, IsLeftIn, IsLeftOf, picked, called, whole_in, picked_in, called_in}
-use Rattle.ada_reaching.specs.Forms.{body_shuns}
-use Rattle.ada_reaching.specs.Reaching.{AssignsApart, AwaitsApart, EndsApart, Seeks, IsElsewhere, is_copying, IsInFront, StartsApart, TreatsApart, begins_anew, is_leaving, seeks_nothing}
+use Rattle.ada_reaching.specs.Apart.{AreBegunIn, AreUndoneIn, IsBegunIn, IsLeftIn, IsLeftOf, picked, called, whole_in, picked_in, called_in}
+use Rattle.ada_reaching.specs.Forms.{body_shuns, may_replace}
+use Rattle.ada_reaching.specs.Reaching.{AssignsApart, AwaitsApart, EndsApart, Seeks, IsAdjusting, IsElsewhere, is_copying, IsInFront, StartsApart, TreatsApart, begins_anew, is_leaving, may_treat, seeks_nothing}
 use Rattle.ada_reaching.specs.Law.{AreApart, AllGoOn}
 use Rattle.ada_reaching.proofs.Begins.{beginning_goes}
 use Rattle.ada_reaching.proofs.Going.{World, Runs, Left, On, Goes, GoesRunning, OperandsSeek, ValueSeeks, any_mode, anew_quiet, anew_stands, anew_from, changed_run, none_jumps, operands_run, reaches, stays, runs_on}
@@ -273,7 +274,7 @@ module _ (w : World) where
           own (picked i left.left);
       begun = left.begun;
     })
-    treats_picked (begins by done) components tasks i (inr left) = inr (assigned_picked PartsFirst components tasks i left)
+    treats_picked (begins by done) components tasks i (inr (adjusting, left)) = inr (adjusting, assigned_picked PartsFirst components tasks i left)
     treats_picked (ends (Leaving master item)) components tasks i left = ends_picked components tasks i left
     treats_picked (ends (Freeing number)) components tasks i left = ends_picked components tasks i left
     treats_picked (ends (Assigning number)) components tasks i left = assigned_picked WholeFirst components tasks i left
@@ -375,19 +376,27 @@ module _ (w : World) where
         valued_goes state.alive v part state (treating v (ends cause) tasks s.control) operation (Finalized v part state.turn of state.number cause) s each
         (part_elsewhere w.ghosts w.unnamed s.heap v (record { component = state.first; part = part }) cell there sight) sight running r behind.0 behind.1
 
-    -- Nothing is called where a record of a type begins that overrides no operation.
-    nothing_begins : (by : Birth) (operations : Operations) → CallsNothing operations → beginning by operations ≡ None
-    nothing_begins Creation operations nothing = nothing.no_initialize
-    nothing_begins Copy operations nothing = nothing.no_adjust
-    nothing_begins (Adjustment number) operations nothing = nothing.no_adjust
+    -- Nothing is called where a record is adjusted of a type that overrides no Adjust.
+    nothing_begins : (by : Birth) (operations : Operations) → IsAdjusting by → procedure_number operations.adjust ≡ None → beginning by operations ≡ None
+    nothing_begins Creation operations adjusting none = absurd adjusting
+    nothing_begins Copy operations adjusting none = none
+    nothing_begins (Adjustment number) operations adjusting none = none
 
-    -- So it is with a part of a record that is assigned to.
+    -- So it is with a part of a record that gets its value from another one,
+    copied_calls :
+        (of part : ℕ) (tasks : List Task) → AssignsApart w.apart PartsFirst (performs of part ∷ tasks)
+        → procedure_number (operations_of tds of).adjust ≡ None
+    copied_calls of part tasks left =
+        are_apart.operations.copies_quietly left.record_type of part tasks left.may
+        (subst (λ (ts : List TypeDefinition). IsLeftIn ts PartsFirst left.record_type (performs of part ∷ tasks)) are_apart.own left.left)
+
+    -- and where one ends to which another one is assigned.
     assigned_calls :
-        (direction : Direction) (of part : ℕ) (tasks : List Task) → AssignsApart w.apart direction (performs of part ∷ tasks)
-        → CallsNothing (operations_of tds of)
-    assigned_calls direction of part tasks left =
-        are_apart.operations.assigns_quietly direction left.record_type of part tasks left.may
-        (subst (λ (ts : List TypeDefinition). IsLeftIn ts direction left.record_type (performs of part ∷ tasks)) are_apart.own left.left)
+        (of part : ℕ) (tasks : List Task) → AssignsApart w.apart WholeFirst (performs of part ∷ tasks)
+        → procedure_number (operations_of tds of).finalize ≡ None
+    assigned_calls of part tasks left =
+        are_apart.operations.assigns_quietly left.record_type of part tasks left.may
+        (subst (λ (ts : List TypeDefinition). IsLeftIn ts WholeFirst left.record_type (performs of part ∷ tasks)) are_apart.own left.left)
 
     -- What is left behind it is so.
     assigned_called :
@@ -416,9 +425,10 @@ module _ (w : World) where
     performed_goes v (begins by done) of part tasks (finds cell) s other is sight (inl left) running r h front =
         begun_goes v by done of part tasks (beginning by (operations_of tds of)) (slice_get cell.parts part) cell s is
         (λ number called_so. initialize_apart by done of part number tasks left called_so) sight (starts_called by done of part tasks left) r h front
-    performed_goes v (begins by done) of part tasks (finds cell) s other is sight (inr left) running r h front =
+    performed_goes v (begins by done) of part tasks (finds cell) s other is sight (inr (adjusting, left)) running r h front =
         unadjusted_goes v by done of part tasks (beginning by (operations_of tds of)) (slice_get cell.parts part) s
-        (nothing_begins by (operations_of tds of) (assigned_calls PartsFirst of part tasks left)) sight (inr (assigned_called PartsFirst of part tasks left)) r h front
+        (nothing_begins by (operations_of tds of) adjusting (copied_calls of part tasks left)) sight
+        (inr (adjusting, assigned_called PartsFirst of part tasks left)) r h front
     performed_goes v (ends cause) of part tasks (finds cell) s other is sight left running r h front =
         let ending = apart_ending cause (performs of part ∷ tasks) other left in
         finalized_goes v cause of part tasks (procedure_number (operations_of tds of).finalize) (slice_get cell.parts part) cell s other is
@@ -504,7 +514,7 @@ module _ (w : World) where
     assigned_performed v number of part tasks on_other s running r h copies sight left sees = tt
     assigned_performed v number of part tasks (finds cell) s running r h copies sight left sees =
         assigned_finalized v number of part tasks (procedure_number (operations_of tds of).finalize) (slice_get cell.parts part) s
-        (assigned_calls tds are_apart WholeFirst of part tasks left).no_finalize running r h copies sight
+        (assigned_calls tds are_apart of part tasks left) running r h copies sight
         (assigned_called tds are_apart WholeFirst of part tasks left) sees
 
     -- So they do as one of so many components is picked.
@@ -551,27 +561,29 @@ module _ (w : World) where
     -- The bodies go on as a record is assigned to another one that has controlled parts (5.2, 7.6): that is finalized, gets the components, and is adjusted. Where
     -- both are one, nothing is done.
     pub assigns_go :
-        (t : ℕ) (target source : Value) (same : Option Bool) (s : State) → w.apart.assigns t ≡ true → IsInSight w.ghosts (whole target)
+        (t : ℕ) (target source : Value) (same : Option Bool) (s : State) → may_replace w.apart t ≡ true → IsInSight w.ghosts (whole target)
         → IsInSight w.ghosts (whole source) → IsElsewhere w.ghosts w.unnamed (whole source) → s.mode ≡ Running → Runs w s → Left w s.control
         → begins_anew s.control ≡ true → AllGoOn (On w) (assigns_next named tds t target source same s)
     assigns_go t target source None s may sight sees other running r h anew = tt
     assigns_go t target source (Some true) s may sight sees other running r h anew = runs_on w s running r h (anew_quiet s.control anew)
     assigns_go t target source (Some false) s may sight sees other running r h anew =
-        let all : (direction : Direction) → AssignsApart w.apart direction (record_tasks tds t direction (part_base target)) = λ direction. record {
+        let both = and_parts (w.apart.assigns t) (w.apart.copies t) may in
+        let all : (direction : Direction) → may_treat w.apart direction t ≡ true → AssignsApart w.apart direction (record_tasks tds t direction (part_base target)) =
+        λ direction allowed. record {
           record_type = t;
-          may = may;
+          may = allowed;
           left =
               subst (λ (ts : List TypeDefinition). IsLeftIn w.apart.definitions direction t (record_tasks ts t direction (part_base target))) are_apart.own
               (whole_in (part_base target));
         } in
         let adjusts = begun_left (whole target) (Adjustment s.next) [] (record_tasks tds t PartsFirst (part_base target)) s.control sight
-        (inr (all PartsFirst)) h anew in
+        (inr (tt, all PartsFirst both.1)) h anew in
         let k = frame.Copies (base source) t ∷ frame.StoresRecord (whole target) (base target) (width_of tds t)
         ∷ treating (whole target) (begins (Adjustment s.next) []) (record_tasks tds t PartsFirst (part_base target)) s.control in
         assigned_on (whole target) s.next (record_tasks tds t WholeFirst (part_base target))
         (numbered (computed (whole source) (at k s))) running
         (operands_run w (whole source ∷ operands s) s.activations s.masters s.heap (other, r.operands) r)
-        (tt, refl, (sight, adjusts.1, adjusts.0)) refl sight (all WholeFirst)
+        (tt, refl, (sight, adjusts.1, adjusts.0)) refl sight (all WholeFirst both.0)
         (newest_sight s.activations (whole source) sees)
       where
         newest_sight : (acts : List (Activation Value)) (v : Value) → IsInSight w.ghosts v

@@ -1,7 +1,7 @@
 -- What bodies may do that shun some access types: which procedures they may call, of which access types they may free objects, whose finalization (7.6.1) calls
 -- such procedures alone, and of which they may allocate objects, whose initialization (7.6) does, and their finalization where an exception comes out of that.
--- So it is with the record objects that they declare. And to records of which types they may assign as wholes though these have controlled parts (5.2): there
--- nothing is called.
+-- So it is with the record objects that they declare. And to records of which types they may assign as wholes though these have controlled parts (5.2), and which
+-- may get their values from others: there nothing is called.
 
 use Rattle.std.specs.Prelude.{◌≡◌, ℕ, Bool, true, List, [], ◌∷◌, Some, None}
 use Rattle.ada_parts.specs.declared.tasks.Direction.{Direction}
@@ -9,18 +9,19 @@ use Rattle.ada_parts.specs.declared.tasks.Direction.TheVariants.{PartsFirst, Who
 use Rattle.ada_parts.specs.Part.{Part}
 use Rattle.ada_parts.specs.Task.{Task, performs, performed, treats}
 use Rattle.ada_program.specs.declared.program.TypeDefinition.{TypeDefinition}
-use Rattle.ada_program.specs.declared.program.Operations.{Operations}
 use Rattle.ada_program.specs.Controlled.{operations_of, procedure_number, shapes_of}
 use Rattle.ada_meaning.specs.Step.{all_tasks, picked_task, record_tasks}
 
 -- The procedures that such bodies may call; the access types of which they may free objects (13.11.2), and those of which they may allocate objects by default
 -- (4.8); of the types by which record objects are known (3.3.1), those of which such objects may end, and begin by default; the record types with controlled
--- parts to which they may assign as wholes (5.2); and the types of the program.
+-- parts of which a record may end to which another one is assigned (5.2), and those of which one may get its value from another one (3.3.1, 5.2); and the types of
+-- the program.
 pub record Apart : Type 0 where
   pub calls : (procedure : ℕ) → Bool
   pub ends : (type_number : ℕ) → Bool
   pub starts : (type_number : ℕ) → Bool
   pub assigns : (record_type : ℕ) → Bool
+  pub copies : (record_type : ℕ) → Bool
   pub definitions : List TypeDefinition
 
 -- What is left of the initialization or the finalization of an object of an access type (7.6, 7.6.1), by the order in which its parts come: all of it, or what
@@ -54,15 +55,9 @@ AreUndoneIn definitions access [] = Unit {0}
 AreUndoneIn definitions access (performs of part ∷ tasks) = IsBegunIn definitions access of part × AreUndoneIn definitions access tasks
 AreUndoneIn definitions access (treats components ∷ tasks) = ⊥
 
--- A record type overrides no operation: where its values begin and end, nothing is called (7.6).
-pub record CallsNothing (operations : Operations) : Type 0 where
-  pub no_initialize : procedure_number operations.initialize ≡ None
-  pub no_adjust : procedure_number operations.adjust ≡ None
-  pub no_finalize : procedure_number operations.finalize ≡ None
-
 -- Where the finalization of an object that they may free calls a Finalize, that is one of these procedures; so it is with an Initialize that the initialization
--- of one calls that they may allocate, and with a Finalize of what has begun of that. No operation is overridden of a part of a record with such parts that they may
--- assign to as a whole.
+-- of one calls that they may allocate, and with a Finalize of what has begun of that. Of a part of a record with such parts no Finalize is overridden, where they
+-- may assign to that as a whole, and no Adjust, where it may get its value from another one.
 pub record CallsApart (definitions : List TypeDefinition) (apart : Apart) : Type 0 where
   pub finalizes :
       (access of part number : ℕ) (tasks : List Task) → apart.ends access ≡ true → IsLeftOf definitions WholeFirst access (performs of part ∷ tasks)
@@ -74,5 +69,8 @@ pub record CallsApart (definitions : List TypeDefinition) (apart : Apart) : Type
       (access of part number : ℕ) → apart.starts access ≡ true → IsBegunIn definitions access of part
       → procedure_number (operations_of definitions of).finalize ≡ Some number → apart.calls number ≡ true
   pub assigns_quietly :
-      (direction : Direction) (record_type of part : ℕ) (tasks : List Task) → apart.assigns record_type ≡ true
-      → IsLeftIn definitions direction record_type (performs of part ∷ tasks) → CallsNothing (operations_of definitions of)
+      (record_type of part : ℕ) (tasks : List Task) → apart.assigns record_type ≡ true
+      → IsLeftIn definitions WholeFirst record_type (performs of part ∷ tasks) → procedure_number (operations_of definitions of).finalize ≡ None
+  pub copies_quietly :
+      (record_type of part : ℕ) (tasks : List Task) → apart.copies record_type ≡ true
+      → IsLeftIn definitions PartsFirst record_type (performs of part ∷ tasks) → procedure_number (operations_of definitions of).adjust ≡ None

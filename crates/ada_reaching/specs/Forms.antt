@@ -31,9 +31,13 @@ may_end apart (Some variable.Boolean) = true
 may_end apart (Some (variable.Access access)) = apart.ends access.0
 may_end apart (Some (variable.Record object)) = true
 
+-- One with controlled parts may be assigned to: it may end, and get its value from another one (7.6).
+abbrev pub may_replace : Apart → (record_type : ℕ) → Bool
+may_replace apart t = apart.assigns t && apart.copies t
+
 -- A record may be assigned to as a whole (5.2): it has no controlled parts, or is of a type with some of which this may be.
 abbrev pub may_assign : List TypeForm → Apart → (record_type : ℕ) → Bool
-may_assign types apart t = not (is_some (finalization_of types t)) || apart.assigns t
+may_assign types apart t = not (is_some (finalization_of types t)) || may_replace apart t
 
 -- An object of an access type may be allocated by default (4.8): it has no controlled parts, or those with some may be.
 abbrev pub may_start : List TypeForm → Apart → (access : ℕ) → Bool
@@ -44,15 +48,15 @@ may_start types apart access = has_bare_objects types access || apart.starts acc
 abbrev pub may_declare : Apart → (object_type : ℕ) → Bool
 may_declare apart t = apart.starts t && apart.ends t
 
--- If there is a record type, its records may be assigned to as wholes, also those with controlled parts.
-abbrev pub may_assign_named : Apart → (record_type : Option ℕ) → Bool
-may_assign_named apart None = false
-may_assign_named apart (Some t) = apart.assigns t
+-- If there is a record type, its records may get their values from others, also those with controlled parts.
+abbrev pub may_copy_named : Apart → (record_type : Option ℕ) → Bool
+may_copy_named apart None = false
+may_copy_named apart (Some t) = apart.copies t
 
--- A record object may be declared with an initial value (3.3.1): it has no controlled parts, or its type is one whose records may be assigned to as wholes, since
--- it is adjusted as these are (7.6), and it is finalized where its master is left (7.6.1).
+-- A record object may be declared with an initial value (3.3.1): it has no controlled parts, or its type is one whose records may get their values from others
+-- (7.6), and it is finalized where its master is left (7.6.1).
 abbrev pub may_fill : List TypeForm → Apart → (object_type : ℕ) → Bool
-may_fill types apart t = not (holds_parts types t) || (apart.ends t && may_assign_named apart (object_named types (Some t)))
+may_fill types apart t = not (holds_parts types t) || (apart.ends t && may_copy_named apart (object_named types (Some t)))
 
 -- A record object may have been declared by default, or with an initial value: it may be finalized where its master is left, or has no controlled parts (7.6).
 abbrev pub may_own : Apart → (object_type : ℕ) → Bool

@@ -17,7 +17,7 @@ use Rattle.ada_parts.specs.declared.tasks.Direction.TheVariants.{PartsFirst, Who
 use Rattle.ada_parts.specs.Part as parts
 use Rattle.ada_parts.specs.Task.{Task}
 use Rattle.ada_meaning.specs.declared.event.Birth.{Birth}
-use Rattle.ada_meaning.specs.declared.event.Birth.TheVariants.{Creation}
+use Rattle.ada_meaning.specs.declared.event.Birth.TheVariants.{Creation, Copy, Adjustment}
 use Rattle.ada_meaning.specs.declared.event.Cause.TheVariants.{Assigning}
 use Rattle.ada_meaning.specs.Frame.{Frame, Treatment, begins, ends, is_return}
 use Rattle.ada_meaning.specs.Frame as frame
@@ -26,7 +26,7 @@ use Rattle.ada_meaning.specs.Step.{operands_of, older, places_of, procedure_of}
 use Rattle.ada_meaning.specs.Named.{Object, State, object_at}
 use Rattle.ada_untouched.specs.Untouched.{IsInSight}
 use Rattle.ada_reaching.specs.Apart.{Apart, AreBegunIn, AreUndoneIn, IsBegunIn, IsLeftIn, IsLeftOf}
-use Rattle.ada_reaching.specs.Forms.{may_fill, may_own, may_follow, may_end, may_start, selectors_shun, record_path_shuns, path_shuns, expression_shuns, links_shun, condition_shuns, item_shuns, right_shuns, declarations_shun, statements_shun, branches_shun, handlers_shun, body_shuns}
+use Rattle.ada_reaching.specs.Forms.{may_fill, may_own, may_replace, may_follow, may_end, may_start, selectors_shun, record_path_shuns, path_shuns, expression_shuns, links_shun, condition_shuns, item_shuns, right_shuns, declarations_shun, statements_shun, branches_shun, handlers_shun, body_shuns}
 
 -- An object is there, and is of an access type that is shunned (3.10).
 pub record IsOfShunned (types : List TypeForm) (shuns : ℕ → Bool) (found : Option Object) : Type 0 where
@@ -135,15 +135,26 @@ EndsApart apart tasks =
     (access : ℕ) × (((apart.ends access ≡ true) × IsLeftOf apart.definitions WholeFirst access tasks)
     ⊎ ((apart.starts access ≡ true) × AreUndoneIn apart.definitions access tasks))
 
--- What is left of the finalization or the adjustment of a record is that of one to which the bodies may assign as a whole (5.2, 7.6).
+-- A record of a type may be finalized to which another one is assigned, or be adjusted, by the order in which its parts come (5.2, 7.6).
+abbrev pub may_treat : Apart → Direction → (record_type : ℕ) → Bool
+may_treat apart PartsFirst t = apart.copies t
+may_treat apart WholeFirst t = apart.assigns t
+
+-- What is left of the finalization or the adjustment of a record is that of one of which this may be.
 pub record AssignsApart (apart : Apart) (direction : Direction) (tasks : List Task) : Type 0 where
   pub record_type : ℕ
-  pub may : apart.assigns record_type ≡ true
+  pub may : may_treat apart direction record_type ≡ true
   pub left : IsLeftIn apart.definitions direction record_type tasks
+
+-- A part of a record is adjusted, which gets its value from another one (7.6).
+abbrev pub IsAdjusting : Birth → Type 0
+IsAdjusting Creation = ⊥
+IsAdjusting Copy = Unit {0}
+IsAdjusting (Adjustment number) = Unit {0}
 
 -- So it is with what is left of the treatment of an object.
 abbrev pub TreatsApart : Apart → Treatment → List Task → Type 0
-TreatsApart apart (begins by done) tasks = StartsApart apart by done tasks ⊎ AssignsApart apart PartsFirst tasks
+TreatsApart apart (begins by done) tasks = StartsApart apart by done tasks ⊎ (IsAdjusting by × AssignsApart apart PartsFirst tasks)
 TreatsApart apart (ends (Assigning number)) tasks = AssignsApart apart WholeFirst tasks
 TreatsApart apart (ends cause) tasks = EndsApart apart tasks
 
@@ -179,7 +190,7 @@ module _ (types : List TypeForm) (shuns : ℕ → Bool) (apart : Apart) (bodies 
   FrameShuns (frame.StoresIn v c) = IsInSight ghosts v
   FrameShuns (frame.TargetsRecord c t items) = list_all (item_shuns types shuns apart variables) items ≡ true
   FrameShuns (frame.StoresRecord v c count) = IsInSight ghosts v
-  FrameShuns (frame.Assigns t) = apart.assigns t ≡ true
+  FrameShuns (frame.Assigns t) = may_replace apart t ≡ true
   FrameShuns (frame.DeclaresRecord x t) = may_fill types apart t ≡ true
   FrameShuns (frame.Treats v treatment tasks) = IsInSight ghosts v × TreatsApart apart treatment tasks
   FrameShuns (frame.Awaits v by done of part tasks) = IsInSight ghosts v × AwaitsApart apart by done of part tasks

@@ -14,6 +14,8 @@ pub mod Laid
 pub mod Numbered
 -- records with controlled parts are found in others
 pub mod Walked
+-- records that lie in others lie there still as types are added
+mod Containing
 -- what names stand for is there
 pub mod Names
 -- types that get pools

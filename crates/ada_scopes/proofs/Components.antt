@@ -1,6 +1,6 @@
 -- What nested states say of objects and their components.
 
-use Rattle.std.proofs.Common.{◌≡◌, not, ℕ, zero, suc, ◌+◌, ◌≤◌, ◌<◌, ◌==◌, ◌||◌, Bool, true, false, if◌then◌else◌, List, [], ◌∷◌, ◌++◌, Option, Some, arith, refl, sym, ap, ◌∙◌, subst, ◌⊎◌, inl, inr}
+use Rattle.std.proofs.Common.{◌≡◌, not, None, ℕ, zero, suc, ◌+◌, ◌≤◌, ◌<◌, ◌==◌, ◌||◌, Bool, true, false, if◌then◌else◌, List, [], ◌∷◌, ◌++◌, Option, Some, arith, refl, sym, ap, ◌∙◌, subst, ◌⊎◌, inl, inr}
 use Rattle.std.proofs.lemmas.Bool.{eqb-true, eq-eqb}
 use Rattle.std.specs.List.{slice_get, All, AllPairs, Contains}
 use Rattle.std.proofs.lemmas.List.Elements.{All-nil, All-cons}
@@ -33,7 +33,7 @@ use Rattle.ada_scopes.proofs.Homes.{HasItem, has_split, HasHome, home_item, open
 use Rattle.ada_scopes.proofs.Layers.{AllLayered, bare_layered, all_above, bare_below}
 use Rattle.ada_scopes.proofs.Control.{OwnsAll, Nests, NestsOutside, Goes, NeedsOpen, AreOpen, RecordNeeds, RecordsNeed, RecordsOpen, Covers, covers_older, covers_fewer, Lone, lone_older, Whole, Growing, Begins, Nested, standing, beginning, parting, resting}
 use Rattle.ada_scopes.proofs.Operations.{none_nests}
-use Rattle.ada_scopes.proofs.Runs.{calls_in, Scoped, state_nested}
+use Rattle.ada_scopes.proofs.Runs.{calls_in, Scoped, state_so, state_nested}
 
 -- The masters whose collections have all been created: all, or the outer ones, where the innermost is creating its own. No object lies in those.
 record Settled (types : List TypeForm) (s : State) : Type 0 where
@@ -43,8 +43,8 @@ record Settled (types : List TypeForm) (s : State) : Type 0 where
   masters : s.masters ≡ own ++ ms
   whole : Whole types ss ms s.heap
 
-outer_whole : (types : List TypeForm) (ss : Scopes) (m : Master) (rest : List Master) (heap : List Object) (ds : List DeclarationForm) (there : List ℕ) → Growing types ss m rest heap ds there → Whole types ss rest heap
-outer_whole types ss m rest heap ds there g = record {
+outer_whole : (types : List TypeForm) (main : Option (List ℕ)) (ss : Scopes) (m : Master) (rest : List Master) (heap : List Object) (ds : List DeclarationForm) (there : List ℕ) → Growing types main ss m rest heap ds there → Whole types ss rest heap
+outer_whole types main ss m rest heap ds there g = record {
   lone = λ t. let once = g.once t in let all = g.all t in omega (arith, once, all);
   needs = g.outer;
   housed = g.housed;
@@ -55,10 +55,10 @@ outer_whole types ss m rest heap ds there g = record {
   known = g.known;
 }
 
-settled : (types : List TypeForm) (callees : Callees) (main : List ℕ) (calling : Bool) (s : State) → Nested types callees main calling s → Settled types s
+settled : (types : List TypeForm) (callees : Callees) (main : Option (List ℕ)) (calling : Bool) (s : State) → Nested types callees main calling s → Settled types s
 settled types callees main calling s (standing ss w n) = record { ss = ss; own = []; ms = s.masters; masters = refl; whole = w }
 settled types callees main calling s (beginning b) =
-    record { ss = b.ss; own = b.m ∷ []; ms = b.rest; masters = b.masters; whole = outer_whole types b.ss b.m b.rest s.heap b.ds b.there b.growing }
+    record { ss = b.ss; own = b.m ∷ []; ms = b.rest; masters = b.masters; whole = outer_whole types main b.ss b.m b.rest s.heap b.ds b.there b.growing }
 settled types callees main calling s (parting ss w runs goes) = record { ss = ss; own = []; ms = s.masters; masters = refl; whole = w }
 settled types callees main calling s (resting ss w none ends) = record { ss = ss; own = []; ms = s.masters; masters = refl; whole = w }
 
@@ -66,7 +66,7 @@ settled types callees main calling s (resting ss w none ends) = record { ss = ss
 lone_covered : (ss : Scopes) (ms : List Master) → Covers ss (scopes ms) → Lone ss → Lone (scopes ms)
 lone_covered ss ms covers lone t = let all = lone t in let fewer = covers_fewer t ss (scopes ms) covers in omega (arith, all, fewer)
 
-lone_begun : (types : List TypeForm) (callees : Callees) (main : List ℕ) (calling : Bool) (s : State) (b : Begins types callees main calling s) → Lone (scopes (b.m ∷ b.rest))
+lone_begun : (types : List TypeForm) (callees : Callees) (main : Option (List ℕ)) (calling : Bool) (s : State) (b : Begins types callees main calling s) → Lone (scopes (b.m ∷ b.rest))
 lone_begun types callees main calling s b t =
     let once = b.growing.once t in
     let all = b.growing.all t in
@@ -74,7 +74,7 @@ lone_begun types callees main calling s b t =
     let sum = times_append t (opened b.m.items) (all_of (scopes b.rest)) in
     omega (arith, once, all, fewer, sum)
 
-lone_in : (types : List TypeForm) (callees : Callees) (main : List ℕ) (calling : Bool) (s : State) → Nested types callees main calling s → Lone (scopes s.masters)
+lone_in : (types : List TypeForm) (callees : Callees) (main : Option (List ℕ)) (calling : Bool) (s : State) → Nested types callees main calling s → Lone (scopes s.masters)
 lone_in types callees main calling s (standing ss w n) = lone_covered ss s.masters w.covers w.lone
 lone_in types callees main calling s (beginning b) = subst (λ (ms : List Master). Lone (scopes ms)) (sym b.masters) (lone_begun types callees main calling s b)
 lone_in types callees main calling s (parting ss w runs goes) = lone_covered ss s.masters w.covers w.lone
@@ -121,7 +121,7 @@ two_types (i ∷ is) lone = AllPairs-cons CollectTwoTypes i is (newest_alone i.o
 -- So no two items of a state are collections of one access type.
 pub collect_two : (p : ProgramForm) (s : State) → Scoped p s → AllPairs CollectTwoTypes (items_of s.masters)
 collect_two p s scoped =
-    let lone = lone_in p.types (callees_of p) (collected p.declarations) (calls_in p) s scoped.nested in
+    let lone = lone_in p.types (callees_of p) None (calls_in p) s scoped.nested in
     two_types (items_of s.masters) (λ t. subst (λ (us : List ℕ). times t us ≤ 1) (sym (opened_all s.masters)) (lone t))
 
 pub one_collection : TypesHaveOneCollection
@@ -131,32 +131,32 @@ one_collection program well nest operations input events last run = collect_two 
 pub items_fit : (p : ProgramForm) (s : State) → Scoped p s → ItemsFit p.types (items_of s.masters)
 items_fit p s scoped = by scoped.nested
   where
-    by : Nested p.types (callees_of p) (collected p.declarations) (calls_in p) s → ItemsFit p.types (items_of s.masters)
+    by : Nested p.types (callees_of p) None (calls_in p) s → ItemsFit p.types (items_of s.masters)
     by (standing ss w n) = w.fit
     by (beginning b) = subst (λ (ms : List Master). ItemsFit p.types (items_of ms)) (sym b.masters) b.growing.fit
     by (parting ss w runs goes) = w.fit
     by (resting ss w none ends) = w.fit
 
 -- Objects of a master lie above its collections: a part that begins has none yet.
-layered_in : (types : List TypeForm) (callees : Callees) (main : List ℕ) (calling : Bool) (s : State) → Nested types callees main calling s → AllLayered s.masters
+layered_in : (types : List TypeForm) (callees : Callees) (main : Option (List ℕ)) (calling : Bool) (s : State) → Nested types callees main calling s → AllLayered s.masters
 layered_in types callees main calling s (standing ss w n) = w.layered
 layered_in types callees main calling s (beginning b) = subst (λ (ms : List Master). AllLayered ms) (sym b.masters) (bare_layered b.m.items b.growing.bare, b.growing.layered)
 layered_in types callees main calling s (parting ss w runs goes) = w.layered
 layered_in types callees main calling s (resting ss w none ends) = w.layered
 
 pub objects_first : (p : ProgramForm) (s : State) → Scoped p s → AreObjectsFirst s
-objects_first p s scoped = all_above s.masters (layered_in p.types (callees_of p) (collected p.declarations) (calls_in p) s scoped.nested)
+objects_first p s scoped = all_above s.masters (layered_in p.types (callees_of p) None (calls_in p) s scoped.nested)
 
 -- Where the newest item of the innermost master is a collection or a pool, the master owns no object.
 pub objects_gone : (p : ProgramForm) (s : State) (m : ℕ) (i : Item) (is : List Item) (ms : List Master) → Scoped p s → s.masters ≡ record { number = m; items = i ∷ is } ∷ ms → is_declared_object i.owned ≡ false → All (λ (j : Item). is_declared_object j.owned ≡ false) (i ∷ is)
 objects_gone p s m i is ms scoped masters none =
-    bare_below i is ((subst AllLayered masters (layered_in p.types (callees_of p) (collected p.declarations) (calls_in p) s scoped.nested)).0) none
+    bare_below i is ((subst AllLayered masters (layered_in p.types (callees_of p) None (calls_in p) s scoped.nested)).0) none
 
 pub objects_go_first : ObjectsGoFirst
 objects_go_first program well nest operations input events last run = objects_first (program_form program) last (state_nested program well nest operations input events last run)
 
 -- Each object in its collection has that as its home.
-pub housed_in : (types : List TypeForm) (callees : Callees) (main : List ℕ) (calling : Bool) (s : State) → Nested types callees main calling s → Housed s.heap (items_of s.masters)
+pub housed_in : (types : List TypeForm) (callees : Callees) (main : Option (List ℕ)) (calling : Bool) (s : State) → Nested types callees main calling s → Housed s.heap (items_of s.masters)
 housed_in types callees main calling s (standing ss w n) = w.housed
 housed_in types callees main calling s (beginning b) =
     subst (λ (ms : List Master). Housed s.heap (items_of ms)) (sym b.masters) (housed_after s.heap b.m.items (items_of b.rest) b.growing.housed)
@@ -173,7 +173,7 @@ contains_home n access pool (i ∷ is) (inr h) =
 pub in_collections : ObjectsLieInCollections
 in_collections program well nest operations input events last run o object listed =
     contains_home object.cell.home.item object.cell.access object.cell.home.pool (items_of last.masters)
-    (housed_in (program_form program).types (callees_of (program_form program)) (collected (program_form program).declarations) (calls_in (program_form program)) last (state_nested program well nest operations input events last run).nested o object listed.0 listed.1)
+    (housed_in (program_form program).types (callees_of (program_form program)) None (calls_in (program_form program)) last (state_nested program well nest operations input events last run).nested o object listed.0 listed.1)
 
 -- What is opened is the collection of an item.
 abbrev HasOpened : ℕ → List Item → Type 0
@@ -321,10 +321,10 @@ nothing_opened t [] vs covers is le = omega (arith, le)
 nothing_opened t (us ∷ ss) [] covers is le = covers
 nothing_opened t (us ∷ ss) (ws ∷ vs) covers is le = cc is
 
-owned_opened : (t : ℕ) (ss vs : Scopes) (bs : List Bool) → OwnsAll ss vs → (1 ≤ times t (all_of (older ss)) → OpenOrLeft t (older vs) (some_departure bs)) → 1 ≤ times t (all_of ss) → OpenOrLeft t vs (some_departure (false ∷ bs))
-owned_opened t [] vs bs owns later le = absurd owns
-owned_opened t (us ∷ ss) [] bs owns later le = absurd owns
-owned_opened t (us ∷ ss) (ws ∷ vs) bs owns later le = split (times t us) refl
+owned_opened : (main : List ℕ) (t : ℕ) (ss vs : Scopes) (bs : List Bool) → OwnsAll (Some main) ss vs → (1 ≤ times t (all_of (older ss)) → OpenOrLeft t (older vs) (some_departure bs)) → 1 ≤ times t (all_of ss) → OpenOrLeft t vs (some_departure (false ∷ bs))
+owned_opened main t [] vs bs owns later le = absurd owns
+owned_opened main t (us ∷ ss) [] bs owns later le = absurd owns
+owned_opened main t (us ∷ ss) (ws ∷ vs) bs owns later le = split (times t us) refl
   where
     behind_it : OpenOrLeft t vs (some_departure bs) → OpenOrLeft t (ws ∷ vs) (some_departure (false ∷ bs))
     behind_it (inl left) = inl left
@@ -336,25 +336,25 @@ owned_opened t (us ∷ ss) (ws ∷ vs) bs owns later le = split (times t us) ref
 
 module _ (types : List TypeForm) (callees : Callees) (main : List ℕ) (calling : Bool) where
   -- So it is behind a master.
-  outside_opened : (t : ℕ) (ss vs : Scopes) (k : List (Frame Value)) → Covers ss vs → (Nests types callees main calling (older ss) (older vs) k → OpenOrLeft t (older vs) (some_departure (departures k))) → NestsOutside types callees main calling (all_of ss) (older ss) (older vs) k → 1 ≤ times t (all_of (older ss)) → OpenOrLeft t (older vs) (some_departure (departures k))
+  outside_opened : (t : ℕ) (ss vs : Scopes) (k : List (Frame Value)) → Covers ss vs → (Nests types callees (Some main) calling (older ss) (older vs) k → OpenOrLeft t (older vs) (some_departure (departures k))) → NestsOutside types callees (Some main) calling (all_of ss) (older ss) (older vs) k → 1 ≤ times t (all_of (older ss)) → OpenOrLeft t (older vs) (some_departure (departures k))
   outside_opened t ss vs k covers opens (inl none) le = absurd (nothing_opened t (older ss) (older vs) (covers_older ss vs covers) none.1 le)
   outside_opened t ss vs k covers opens (inr nest) le = opens nest
 
   mutual
-    nests_opened : (t : ℕ) (ss vs : Scopes) (k : List (Frame Value)) → Covers ss vs → Nests types callees main calling ss vs k → 1 ≤ times t (all_of ss) → OpenOrLeft t vs (some_departure (departures k))
+    nests_opened : (t : ℕ) (ss vs : Scopes) (k : List (Frame Value)) → Covers ss vs → Nests types callees (Some main) calling ss vs k → 1 ≤ times t (all_of ss) → OpenOrLeft t vs (some_departure (departures k))
     nests_opened t ss vs [] covers n le = absurd n
     nests_opened t ss vs (frame.Elaborates ds fs hs ∷ k) covers n le =
-        owned_opened t ss vs (departures k) n.0.2
+        owned_opened main t ss vs (departures k) n.0.2
         (λ more. outside_opened t ss vs k covers (λ nest. nests_opened t (older ss) (older vs) k (covers_older ss vs covers) nest more) n.1 more) le
     nests_opened t ss vs (frame.Closes ∷ k) covers n le =
-        owned_opened t ss vs (departures k) n.0
+        owned_opened main t ss vs (departures k) n.0
         (λ more. outside_opened t ss vs k covers (λ nest. nests_opened t (older ss) (older vs) k (covers_older ss vs covers) nest more) n.1 more) le
     nests_opened t ss vs (frame.Leaves mode ∷ k) covers n le = absurd n.0
     nests_opened t ss vs (frame.Confines ∷ k) covers (x, inl n) le = nests_opened t ss vs k covers n le
     nests_opened t ss vs (frame.Confines ∷ k) covers (x, inr goes) le = goes_opened t ss vs k covers goes le
     nests_opened t ss vs (f ∷ k) covers n le = nests_opened t ss vs k covers n.1 le
 
-    goes_opened : (t : ℕ) (ss vs : Scopes) (k : List (Frame Value)) → Covers ss vs → Goes types callees main calling ss vs k → 1 ≤ times t (all_of ss) → OpenOrLeft t vs (some_departure (departures k))
+    goes_opened : (t : ℕ) (ss vs : Scopes) (k : List (Frame Value)) → Covers ss vs → Goes types callees (Some main) calling ss vs k → 1 ≤ times t (all_of ss) → OpenOrLeft t vs (some_departure (departures k))
     goes_opened t ss vs [] covers goes le = absurd goes
     goes_opened t ss vs (frame.Leaves mode ∷ k) covers goes le = inl refl
     goes_opened t ss vs (frame.Treats v (frame.begins by done) tasks ∷ k) covers goes le = absurd goes
@@ -364,7 +364,7 @@ module _ (types : List TypeForm) (callees : Callees) (main : List ℕ) (calling 
     goes_opened t ss vs (f ∷ k) covers goes le = absurd goes
 
 -- Where no operation is called, no master but the innermost one is being left.
-module _ (types : List TypeForm) (callees : Callees) (main : List ℕ) where
+module _ (types : List TypeForm) (callees : Callees) (main : Option (List ℕ)) where
   outside_left : (there : List ℕ) (ss vs : Scopes) (k : List (Frame Value)) → (Nests types callees main false ss vs k → some_departure (departures k) ≡ false) → NestsOutside types callees main false there ss vs k → some_departure (departures k) ≡ false
   outside_left there ss vs k none (inl ends) = ap (λ (k : List (Frame Value)). some_departure (departures k)) ends.0
   outside_left there ss vs k none (inr nest) = none nest
@@ -406,8 +406,8 @@ pub innermost_alone : OnlyInnermostIsLeft
 innermost_alone program well nest plain input events last run =
     let p = program_form program in
     let operations = none_nests p plain in
-    left_alone p.types (callees_of p) (collected p.declarations) last
-    (subst (λ (calling : Bool). Nested p.types (callees_of p) (collected p.declarations) calling last) (none_called_in p plain) (state_nested program well nest operations input events last run).nested)
+    left_alone p.types (callees_of p) None last
+    (subst (λ (calling : Bool). Nested p.types (callees_of p) None calling last) (none_called_in p plain) (state_nested program well nest operations input events last run).nested)
 
 -- So it is of those that last as long as an item.
 abbrev LastOpenOrLeft : (n t : ℕ) → List Master → List Bool → Type 0
@@ -427,12 +427,12 @@ no_masters n t ss [] is le = omega (arith, le)
 no_masters n t ss (m ∷ ms) is le = cc is
 
 module _ (types : List TypeForm) (callees : Callees) (main : List ℕ) (calling : Bool) (n t : ℕ) where
-  outside_last : (there : List ℕ) (ss : Scopes) (ms : List Master) (k : List (Frame Value)) → (Nests types callees main calling ss (scopes ms) k → LastOpenOrLeft n t ms (departures k)) → NestsOutside types callees main calling there ss (scopes ms) k → 1 ≤ times t (all_of (last_opened n ms ss)) → LastOpenOrLeft n t ms (departures k)
+  outside_last : (there : List ℕ) (ss : Scopes) (ms : List Master) (k : List (Frame Value)) → (Nests types callees (Some main) calling ss (scopes ms) k → LastOpenOrLeft n t ms (departures k)) → NestsOutside types callees (Some main) calling there ss (scopes ms) k → 1 ≤ times t (all_of (last_opened n ms ss)) → LastOpenOrLeft n t ms (departures k)
   outside_last there ss ms k lasts (inl none) le = absurd (no_masters n t ss ms none.1 le)
   outside_last there ss ms k lasts (inr nest) le = lasts nest
 
   mutual
-    nests_last : (ss : Scopes) (ms : List Master) (k : List (Frame Value)) → Covers ss (scopes ms) → Nests types callees main calling ss (scopes ms) k → 1 ≤ times t (all_of (last_opened n ms ss)) → LastOpenOrLeft n t ms (departures k)
+    nests_last : (ss : Scopes) (ms : List Master) (k : List (Frame Value)) → Covers ss (scopes ms) → Nests types callees (Some main) calling ss (scopes ms) k → 1 ≤ times t (all_of (last_opened n ms ss)) → LastOpenOrLeft n t ms (departures k)
     nests_last ss ms [] covers nest le = absurd nest
     nests_last ss ms (frame.Elaborates ds fs hs ∷ k) covers nest le =
         of_owner n t ss ms false (departures k) covers (nests_opened types callees main calling t ss (scopes ms) (frame.Elaborates ds fs hs ∷ k) covers nest)
@@ -449,7 +449,7 @@ module _ (types : List TypeForm) (callees : Callees) (main : List ℕ) (calling 
     nests_last ss ms (frame.Confines ∷ k) covers (x, inr goes) le = goes_last ss ms k covers goes le
     nests_last ss ms (f ∷ k) covers nest le = nests_last ss ms k covers nest.1 le
 
-    goes_last : (ss : Scopes) (ms : List Master) (k : List (Frame Value)) → Covers ss (scopes ms) → Goes types callees main calling ss (scopes ms) k → 1 ≤ times t (all_of (last_opened n ms ss)) → LastOpenOrLeft n t ms (departures k)
+    goes_last : (ss : Scopes) (ms : List Master) (k : List (Frame Value)) → Covers ss (scopes ms) → Goes types callees (Some main) calling ss (scopes ms) k → 1 ≤ times t (all_of (last_opened n ms ss)) → LastOpenOrLeft n t ms (departures k)
     goes_last ss ms [] covers goes le = absurd goes
     goes_last ss ms (frame.Leaves mode ∷ k) covers goes le =
         of_owner n t ss ms true (departures k) covers (goes_opened types callees main calling t ss (scopes ms) (frame.Leaves mode ∷ k) covers goes)
@@ -487,7 +487,7 @@ target_whole : (types : List TypeForm) (ss : Scopes) (ms : List Master) (heap : 
 target_whole types ss ms heap o x c target w listed names =
     target_in types x.cell.home.item x.cell.access c target ss ms w.covers w.needs w.records names (at_item heap (items_of ms) w.housed o x listed)
 
-target_nested : (types : List TypeForm) (callees : Callees) (main : List ℕ) (calling : Bool) (s : State) (o : Id) (x : Object) (c : ℕ) (target : TypeNo) → Nested types callees main calling s → IsListed s.heap o x → HoldsNames types x.cell.access c target → LastOpenOrLeft x.cell.home.item target.0 s.masters (departures s.control)
+target_nested : (types : List TypeForm) (callees : Callees) (main : List ℕ) (calling : Bool) (s : State) (o : Id) (x : Object) (c : ℕ) (target : TypeNo) → Nested types callees (Some main) calling s → IsListed s.heap o x → HoldsNames types x.cell.access c target → LastOpenOrLeft x.cell.home.item target.0 s.masters (departures s.control)
 target_nested types callees main calling s o x c target (standing ss w n) listed names =
     nests_last types callees main calling x.cell.home.item target.0 ss s.masters s.control w.covers n (target_whole types ss s.masters s.heap o x c target w listed names)
 target_nested types callees main calling s o x c target (parting ss w runs goes) listed names =
@@ -496,7 +496,7 @@ target_nested types callees main calling s o x c target (resting ss w none ends)
     absurd (no_masters x.cell.home.item target.0 ss s.masters none (target_whole types ss s.masters s.heap o x c target w listed names))
 target_nested types callees main calling s o x c target (beginning b) listed names =
     let n = x.cell.home.item in
-    let w = outer_whole types b.ss b.m b.rest s.heap b.ds b.there b.growing in
+    let w = outer_whole types (Some main) b.ss b.m b.rest s.heap b.ds b.there b.growing in
     let le = target_whole types b.ss b.rest s.heap o x c target w listed names in
     let found = outside_last types callees main calling n target.0 b.there b.ss b.rest b.k
     (λ nest. nests_last types callees main calling n target.0 b.ss b.rest b.k w.covers nest le) b.nests le in
@@ -505,7 +505,7 @@ target_nested types callees main calling s o x c target (beginning b) listed nam
 
 pub outlived : ComponentsAreOutlived
 outlived program well nest operations input events last run o x c target listed names =
-    elim (target_nested (program_form program).types (callees_of (program_form program)) (collected (program_form program).declarations) (calls_in (program_form program)) last o x c target (state_nested program well nest operations input events last run).nested listed names) [
+    elim (target_nested (program_form program).types (callees_of (program_form program)) (collected (program_form program).declarations) (calls_in (program_form program)) last o x c target (state_so true program well nest operations input events last run).nested listed names) [
       | inl going ↦ inl going
       | inr le ↦ inr (open_in target.0 (lasting x.cell.home.item last.masters) le)
     ]
@@ -579,7 +579,7 @@ pub held_outside : (p : ProgramForm) (s : State) → Scoped p s → AreOfKinds p
 held_outside program s scoped kinds holder held holds =
     let types = program.types in
     let callees = callees_of program in
-    let here_settled = settled types callees (collected program.declarations) (calls_in program) s scoped.nested in
+    let here_settled = settled types callees None (calls_in program) s scoped.nested in
     let o = holds.0 in
     let p = holds.1 in
     let listed = holds.3 in

@@ -1,7 +1,7 @@
 -- What is left to do nests in the masters that are entered: the statements of each frame were written where the collections are open that
 -- its master and the outer ones have. The outermost of them is that of the main procedure, which opens the collections that this declares.
 
-use Rattle.std.proofs.Common.{◌≡◌, ℕ, zero, suc, ◌+◌, ◌≤◌, Bool, true, false, List, [], ◌∷◌, ◌++◌, Some, None, arith, refl, sym, ap, ◌⊎◌, inl, inr}
+use Rattle.std.proofs.Common.{◌≡◌, ℕ, zero, suc, ◌+◌, ◌≤◌, Bool, true, false, List, [], ◌∷◌, ◌++◌, Some, None, arith, refl, sym, ap, ◌⊎◌, inl, inr, Option}
 use Rattle.std.specs.List.{list_all}
 use Rattle.ada_parts.specs.Task.{Task}
 use Rattle.ada_program.specs.Form.{DeclarationForm, StmtsForm, HandlersForm}
@@ -31,11 +31,23 @@ Alike us vs = (t : ℕ) → times t us ≡ times t vs
 abbrev pub Where : List ℕ → (List ℕ → Type 0) → Type 0
 Where us P = (around : List ℕ) × Alike around us × P around
 
--- The innermost master has all the collections that it opens: none has gone.
-abbrev pub OwnsAll : (ss vs : Scopes) → Type 0
-OwnsAll [] vs = ⊥
-OwnsAll (us ∷ ss) [] = ⊥
-OwnsAll (us ∷ ss) (ws ∷ vs) = Alike us ws
+-- Operations need the collections open that the main procedure declares, or those of all access types: an operation is called then as if its master opened
+-- all that are not open. So a master lacks collections of these then.
+abbrev pub Lacks : (main : Option (List ℕ)) → List ℕ → Type 0
+Lacks None us = Unit {0}
+Lacks (Some main) us = us ≡ []
+
+-- The collections of the main procedure are open, where operations need these.
+abbrev pub HasMain : (main : Option (List ℕ)) → (there : List ℕ) → Type 0
+HasMain None there = Unit {0}
+HasMain (Some main) there = Within main there
+
+-- The innermost master has all the collections that it opens: none has gone, where it lacks none.
+abbrev pub OwnsAll : (main : Option (List ℕ)) → (ss vs : Scopes) → Type 0
+OwnsAll main [] vs = ⊥
+OwnsAll main (us ∷ ss) [] = ⊥
+OwnsAll None (us ∷ ss) (ws ∷ vs) = Unit {0}
+OwnsAll (Some main) (us ∷ ss) (ws ∷ vs) = Alike us ws
 
 -- What the components of a record object name lies in collections that are open; and its type is no access type.
 abbrev pub RecordHere : List TypeForm → List ℕ → ℕ → Type 0
@@ -45,23 +57,23 @@ RecordHere types us t = Where us (λ around. (is_access types t ≡ false) × (a
 -- its collections, has a master, and what the record objects need that it has left to create is open, be it one whose initial value is evaluated; a body
 -- that is called nests as if it stood there. A master that is being left stands behind what goes with it alone. The body of a Finalize is called where some
 -- type overrides an operation.
-abbrev pub FrameNests : List TypeForm → Callees → (calling : Bool) → (ss vs : Scopes) → Frame Value → Type 0
-FrameNests types callees calling ss vs (frame.Elaborates ds fs hs) =
+abbrev pub FrameNests : List TypeForm → Callees → (main : Option (List ℕ)) → (calling : Bool) → (ss vs : Scopes) → Frame Value → Type 0
+FrameNests types callees main calling ss vs (frame.Elaborates ds fs hs) =
     (list_all is_object ds ≡ true) × Where (all_of ss) (λ around. StatementsNest types callees around fs × HandlersNest types callees around hs × RecordsNest types around ds)
-    × OwnsAll ss vs
-FrameNests types callees calling ss vs (frame.Does fs) = Where (all_of ss) (λ around. StatementsNest types callees around fs)
-FrameNests types callees calling ss vs (frame.Decides fs branches) = Where (all_of ss) (λ around. StatementsNest types callees around fs × BranchesNest types callees around branches)
-FrameNests types callees calling ss vs (frame.Repeats condition fs) = Where (all_of ss) (λ around. StatementsNest types callees around fs)
-FrameNests types callees calling ss vs (frame.Turns condition fs) = Where (all_of ss) (λ around. StatementsNest types callees around fs)
-FrameNests types callees calling ss vs (frame.Ranges x fs) = Where (all_of ss) (λ around. StatementsNest types callees around fs)
-FrameNests types callees calling ss vs (frame.Counts x value last fs) = Where (all_of ss) (λ around. StatementsNest types callees around fs)
-FrameNests types callees calling ss vs (frame.Handles hs) = Where (all_of ss) (λ around. HandlersNest types callees around hs)
-FrameNests types callees calling ss vs (frame.Calls procedure b actuals) = Where (all_of ss) (λ around. BodyNests types callees around b)
-FrameNests types callees calling ss vs (frame.DeclaresRecord x t) = RecordHere types (all_of ss) t × OwnsAll ss vs
-FrameNests types callees calling ss vs frame.Closes = OwnsAll ss vs
-FrameNests types callees calling ss vs frame.Confines = calling ≡ true
-FrameNests types callees calling ss vs (frame.Leaves mode) = ⊥
-FrameNests types callees calling ss vs f = Unit {0}
+    × OwnsAll main ss vs
+FrameNests types callees main calling ss vs (frame.Does fs) = Where (all_of ss) (λ around. StatementsNest types callees around fs)
+FrameNests types callees main calling ss vs (frame.Decides fs branches) = Where (all_of ss) (λ around. StatementsNest types callees around fs × BranchesNest types callees around branches)
+FrameNests types callees main calling ss vs (frame.Repeats condition fs) = Where (all_of ss) (λ around. StatementsNest types callees around fs)
+FrameNests types callees main calling ss vs (frame.Turns condition fs) = Where (all_of ss) (λ around. StatementsNest types callees around fs)
+FrameNests types callees main calling ss vs (frame.Ranges x fs) = Where (all_of ss) (λ around. StatementsNest types callees around fs)
+FrameNests types callees main calling ss vs (frame.Counts x value last fs) = Where (all_of ss) (λ around. StatementsNest types callees around fs)
+FrameNests types callees main calling ss vs (frame.Handles hs) = Where (all_of ss) (λ around. HandlersNest types callees around hs)
+FrameNests types callees main calling ss vs (frame.Calls procedure b actuals) = Where (all_of ss) (λ around. BodyNests types callees around b)
+FrameNests types callees main calling ss vs (frame.DeclaresRecord x t) = RecordHere types (all_of ss) t × OwnsAll main ss vs
+FrameNests types callees main calling ss vs frame.Closes = OwnsAll main ss vs
+FrameNests types callees main calling ss vs frame.Confines = calling ≡ true
+FrameNests types callees main calling ss vs (frame.Leaves mode) = ⊥
+FrameNests types callees main calling ss vs f = Unit {0}
 
 -- What is open behind a frame: that of a master is the last one of its master.
 abbrev pub behind : (master : Bool) → Scopes → Scopes
@@ -80,8 +92,8 @@ Either false nests goes = nests
 
 -- What is behind the last frame of a master, where these collections are open: what nests there, or nothing at all, and no master is entered. It is that of
 -- the main procedure then, and the collections that this declares are among them.
-abbrev pub Outside : (main there : List ℕ) → (vs : Scopes) → List (Frame Value) → (nests : Type 0) → Type 0
-Outside main there vs k nests = ((k ≡ []) × (vs ≡ []) × Within main there) ⊎ nests
+abbrev pub Outside : (main : Option (List ℕ)) → (there : List ℕ) → (vs : Scopes) → List (Frame Value) → (nests : Type 0) → Type 0
+Outside main there vs k nests = ((k ≡ []) × (vs ≡ []) × HasMain main there) ⊎ nests
 
 -- What is behind a frame, whether or not it is the last one of its master.
 abbrev pub Around : (master : Bool) → (outside nests : Type 0) → Type 0
@@ -91,17 +103,17 @@ Around false outside nests = nests
 abbrev mutual
   -- What is left to do nests, where masters have opened the first ones of these, of which they have the second ones: a master that is being left has
   -- lost some. The outermost one has opened the collections of the main procedure: something is left to do there.
-  pub Nests : List TypeForm → Callees → (main : List ℕ) → (calling : Bool) → (ss vs : Scopes) → List (Frame Value) → Type 0
+  pub Nests : List TypeForm → Callees → (main : Option (List ℕ)) → (calling : Bool) → (ss vs : Scopes) → List (Frame Value) → Type 0
   Nests types callees main calling ss vs [] = ⊥
   Nests types callees main calling ss vs (f ∷ k) =
-      FrameNests types callees calling ss vs f
+      FrameNests types callees main calling ss vs f
       × Either (is_confine f) (Around (is_master f)
       (Outside main (all_of ss) (behind (is_master f) vs) k (Nests types callees main calling (behind (is_master f) ss) (behind (is_master f) vs) k))
       (Nests types callees main calling (behind (is_master f) ss) (behind (is_master f) vs) k))
       (Goes types callees main calling (behind (is_master f) ss) (behind (is_master f) vs) k)
 
   -- The innermost master is being left, and what is behind that nests.
-  pub Goes : List TypeForm → Callees → (main : List ℕ) → (calling : Bool) → (ss vs : Scopes) → List (Frame Value) → Type 0
+  pub Goes : List TypeForm → Callees → (main : Option (List ℕ)) → (calling : Bool) → (ss vs : Scopes) → List (Frame Value) → Type 0
   Goes types callees main calling ss vs [] = ⊥
   Goes types callees main calling ss vs (frame.Leaves mode ∷ k) =
       Outside main (all_of ss) (older vs) k (Nests types callees main calling (older ss) (older vs) k)
@@ -111,26 +123,30 @@ abbrev mutual
   Goes types callees main calling ss vs (f ∷ k) = ⊥
 
 -- What is behind a master in which these collections are open, where outer ones have opened the first ones of these.
-abbrev pub NestsOutside : List TypeForm → Callees → (main : List ℕ) → (calling : Bool) → (there : List ℕ) → (ss vs : Scopes) → List (Frame Value) → Type 0
+abbrev pub NestsOutside : List TypeForm → Callees → (main : Option (List ℕ)) → (calling : Bool) → (there : List ℕ) → (ss vs : Scopes) → List (Frame Value) → Type 0
 NestsOutside types callees main calling there ss vs k = Outside main there vs k (Nests types callees main calling ss vs k)
 
 -- So it is where others are open that are alike.
-pub outside_alike : (main us there : List ℕ) (vs : Scopes) (k : List (Frame Value)) (nests : Type 0) → Alike us there → Outside main us vs k nests → Outside main there vs k nests
+has_main : (main : Option (List ℕ)) (us there : List ℕ) → ((t : ℕ) → times t us ≤ times t there) → HasMain main us → HasMain main there
+has_main None us there more has = tt
+has_main (Some main) us there more has = λ t le. let some = has t le in let fewer = more t in omega (arith, some, fewer)
+
+pub outside_alike : (main : Option (List ℕ)) (us there : List ℕ) (vs : Scopes) (k : List (Frame Value)) (nests : Type 0) → Alike us there → Outside main us vs k nests → Outside main there vs k nests
 outside_alike main us there vs k nests alike (inl none) =
-    inl (none.0, none.1, λ t le. let more = none.2 t le in let same = alike t in omega (arith, more, same))
+    inl (none.0, none.1, has_main main us there (λ t. let same = alike t in omega (arith, same)) none.2)
 outside_alike main us there vs k nests alike (inr nest) = inr nest
 
 -- The collections of the main procedure are among those that masters have opened which still have something to do.
-within_more : (main : List ℕ) (ss : Scopes) → Within main (all_of (older ss)) → Within main (all_of ss)
-within_more main ss within t le = let outer = within t le in let fewer = fewer_older t ss in omega (arith, outer, fewer)
+within_more : (main : Option (List ℕ)) (ss : Scopes) → HasMain main (all_of (older ss)) → HasMain main (all_of ss)
+within_more main ss within = has_main main (all_of (older ss)) (all_of ss) (λ t. fewer_older t ss) within
 
-within_outside : (main : List ℕ) (ss vs : Scopes) (k : List (Frame Value)) (nests : Type 0) → (nests → Within main (all_of (older ss))) → Outside main (all_of ss) vs k nests → Within main (all_of ss)
+within_outside : (main : Option (List ℕ)) (ss vs : Scopes) (k : List (Frame Value)) (nests : Type 0) → (nests → HasMain main (all_of (older ss))) → Outside main (all_of ss) vs k nests → HasMain main (all_of ss)
 within_outside main ss vs k nests outer (inl none) = none.2
 within_outside main ss vs k nests outer (inr nest) = within_more main ss (outer nest)
 
-module _ (types : List TypeForm) (callees : Callees) (main : List ℕ) (calling : Bool) where
+module _ (types : List TypeForm) (callees : Callees) (main : Option (List ℕ)) (calling : Bool) where
   mutual
-    pub nests_within : (ss vs : Scopes) (k : List (Frame Value)) → Nests types callees main calling ss vs k → Within main (all_of ss)
+    pub nests_within : (ss vs : Scopes) (k : List (Frame Value)) → Nests types callees main calling ss vs k → HasMain main (all_of ss)
     nests_within ss vs [] n = absurd n
     nests_within ss vs (frame.Elaborates ds fs hs ∷ k) n =
         within_outside main ss (older vs) k (Nests types callees main calling (older ss) (older vs) k) (λ nest. nests_within (older ss) (older vs) k nest) n.1
@@ -141,7 +157,7 @@ module _ (types : List TypeForm) (callees : Callees) (main : List ℕ) (calling 
     nests_within ss vs (frame.Confines ∷ k) (x, inr goes) = goes_within ss vs k goes
     nests_within ss vs (f ∷ k) n = nests_within ss vs k n.1
 
-    goes_within : (ss vs : Scopes) (k : List (Frame Value)) → Goes types callees main calling ss vs k → Within main (all_of ss)
+    goes_within : (ss vs : Scopes) (k : List (Frame Value)) → Goes types callees main calling ss vs k → HasMain main (all_of ss)
     goes_within ss vs [] goes = absurd goes
     goes_within ss vs (frame.Leaves mode ∷ k) goes =
         within_outside main ss (older vs) k (Nests types callees main calling (older ss) (older vs) k) (λ nest. nests_within (older ss) (older vs) k nest) goes
@@ -152,11 +168,11 @@ module _ (types : List TypeForm) (callees : Callees) (main : List ℕ) (calling 
     goes_within ss vs (f ∷ k) goes = absurd goes
 
 -- An object is treated before what is left to do (7.6, 7.6.1).
-pub nests_treating : (types : List TypeForm) (callees : Callees) (main : List ℕ) (calling : Bool) (ss vs : Scopes) (v : Value) (treatment : Treatment) (tasks : List Task) (k : List (Frame Value)) → Nests types callees main calling ss vs k → Nests types callees main calling ss vs (treating v treatment tasks k)
+pub nests_treating : (types : List TypeForm) (callees : Callees) (main : Option (List ℕ)) (calling : Bool) (ss vs : Scopes) (v : Value) (treatment : Treatment) (tasks : List Task) (k : List (Frame Value)) → Nests types callees main calling ss vs k → Nests types callees main calling ss vs (treating v treatment tasks k)
 nests_treating types callees main calling ss vs v treatment [] k n = n
 nests_treating types callees main calling ss vs v treatment (task ∷ tasks) k n = (tt, n)
 
-pub goes_treating : (types : List TypeForm) (callees : Callees) (main : List ℕ) (calling : Bool) (ss vs : Scopes) (v : Value) (cause : Cause) (tasks : List Task) (k : List (Frame Value)) → Goes types callees main calling ss vs k → Goes types callees main calling ss vs (treating v (frame.ends cause) tasks k)
+pub goes_treating : (types : List TypeForm) (callees : Callees) (main : Option (List ℕ)) (calling : Bool) (ss vs : Scopes) (v : Value) (cause : Cause) (tasks : List Task) (k : List (Frame Value)) → Goes types callees main calling ss vs k → Goes types callees main calling ss vs (treating v (frame.ends cause) tasks k)
 goes_treating types callees main calling ss vs v cause [] k goes = goes
 goes_treating types callees main calling ss vs v cause (task ∷ tasks) k goes = goes
 
@@ -259,12 +275,21 @@ pub record Whole (types : List TypeForm) (ss : Scopes) (ms : List Master) (heap 
   pub layered : AllLayered ms
   pub known : (t : ℕ) → 1 ≤ times t (all_of ss) → is_access types t ≡ true
 
+-- What a master lacks are collections of access types, and what the components of their objects name lies in collections that are open, too.
+pub record IsSpare (types : List TypeForm) (lacks there : List ℕ) : Type 0 where
+  pub known : (t : ℕ) → 1 ≤ times t lacks → is_access types t ≡ true
+  pub needs : NeedsOpen types lacks there
+
 -- Masters of which the innermost one has these declarations left to elaborate. It opens the collections of `there`, with those that were open
--- around it: they are those that it has, those that are left, and those of the outer masters. No object lies in one of its own yet, and it owns none.
-pub record Growing (types : List TypeForm) (ss : Scopes) (m : Master) (rest : List Master) (heap : List Object) (ds : List DeclarationForm) (there : List ℕ) : Type 0 where
+-- around it: they are those that it has, those that are left, those that it lacks, and those of the outer masters. No object lies in one of its own yet, and it
+-- owns none.
+pub record Growing (types : List TypeForm) (main : Option (List ℕ)) (ss : Scopes) (m : Master) (rest : List Master) (heap : List Object) (ds : List DeclarationForm) (there : List ℕ) : Type 0 where
+  pub lacks : List ℕ
+  pub lacking : Lacks main lacks
+  pub spare : IsSpare types lacks there
   pub first : collections_first ds ≡ true
   pub once : (t : ℕ) → times t there ≤ 1
-  pub all : (t : ℕ) → times t there ≡ times t (collected ds) + (times t (opened m.items) + times t (all_of ss))
+  pub all : (t : ℕ) → times t there ≡ times t (collected ds) + (times t lacks + (times t (opened m.items) + times t (all_of ss)))
   pub left : NeedsOpen types (collected ds) there
   pub here : NeedsOpen types (opened m.items) there
   pub outer : AreOpen types ss
@@ -280,7 +305,7 @@ pub record Growing (types : List TypeForm) (ss : Scopes) (m : Master) (rest : Li
   pub known : (t : ℕ) → 1 ≤ times t (all_of ss) → is_access types t ≡ true
 
 -- A part that is beginning.
-pub record Begins (types : List TypeForm) (callees : Callees) (main : List ℕ) (calling : Bool) (s : State) : Type 0 where
+pub record Begins (types : List TypeForm) (callees : Callees) (main : Option (List ℕ)) (calling : Bool) (s : State) : Type 0 where
   pub ss : Scopes
   pub m : Master
   pub rest : List Master
@@ -292,14 +317,14 @@ pub record Begins (types : List TypeForm) (callees : Callees) (main : List ℕ) 
   pub masters : s.masters ≡ m ∷ rest
   pub control : s.control ≡ frame.Elaborates ds fs hs ∷ k
   pub runs : s.mode ≡ Running
-  pub growing : Growing types ss m rest s.heap ds there
+  pub growing : Growing types main ss m rest s.heap ds there
   pub statements : StatementsNest types callees there fs
   pub handlers : HandlersNest types callees there hs
   pub nests : NestsOutside types callees main calling there ss (scopes rest) k
 
 -- A state of a run: what is left to do nests, whether or not a jump is on its way; or a part begins; or the innermost master is being left; or nothing is left
 -- to do, since the master of the main procedure has been left.
-pub data Nested (types : List TypeForm) (callees : Callees) (main : List ℕ) (calling : Bool) (s : State) : Type 0 where
+pub data Nested (types : List TypeForm) (callees : Callees) (main : Option (List ℕ)) (calling : Bool) (s : State) : Type 0 where
   standing : (ss : Scopes) → Whole types ss s.masters s.heap → Nests types callees main calling ss (scopes s.masters) s.control → Nested types callees main calling s
   beginning : Begins types callees main calling s → Nested types callees main calling s
   parting : (ss : Scopes) → Whole types ss s.masters s.heap → s.mode ≡ Running → Goes types callees main calling ss (scopes s.masters) s.control → Nested types callees main calling s
@@ -324,10 +349,10 @@ whole_declared types ss number x ms heap w = record {
     records_declared (us ∷ uss) (m ∷ xs) h = ((tt, h.0), h.1)
 
 -- A record object is one item more, which is the home of the object.
-pub whole_recorded : (types : List TypeForm) (ss : Scopes) (number t : ℕ) (ms : List Master) (heap : List Object) (cell : Cell Value) (around : List ℕ) → OwnsAll ss (scopes ms) → cell.home.item ≡ number → cell.access ≡ t → cell.home.pool ≡ None → Alike around (all_of ss) → is_access types t ≡ false → are_open around (reached_components types t) ≡ true → Whole types ss ms heap → Whole types ss (owning (record { number = number; owned = record_object t }) ms) (heap ++ new_object cell ∷ [])
-whole_recorded types [] number t ms heap cell around some home access pool alike never opens w = absurd some
-whole_recorded types (us ∷ ss) number t [] heap cell around some home access pool alike never opens w = absurd some
-whole_recorded types (us ∷ ss) number t (m ∷ ms) heap cell around some home access pool alike never opens w = record {
+pub whole_recorded : (types : List TypeForm) (ss : Scopes) (number t : ℕ) (ms : List Master) (heap : List Object) (cell : Cell Value) (around : List ℕ) → (main : Option (List ℕ)) → OwnsAll main ss (scopes ms) → cell.home.item ≡ number → cell.access ≡ t → cell.home.pool ≡ None → Alike around (all_of ss) → is_access types t ≡ false → are_open around (reached_components types t) ≡ true → Whole types ss ms heap → Whole types ss (owning (record { number = number; owned = record_object t }) ms) (heap ++ new_object cell ∷ [])
+whole_recorded types [] number t ms heap cell around main some home access pool alike never opens w = absurd some
+whole_recorded types (us ∷ ss) number t [] heap cell around main some home access pool alike never opens w = absurd some
+whole_recorded types (us ∷ ss) number t (m ∷ ms) heap cell around main some home access pool alike never opens w = record {
   lone = w.lone;
   needs = w.needs;
   housed = housed_new heap cell (items_of (owning (record { number = number; owned = record_object t }) (m ∷ ms))) (inl (sym home, ap Some (sym access), sym pool))
@@ -339,10 +364,10 @@ whole_recorded types (us ∷ ss) number t (m ∷ ms) heap cell around some home 
   known = w.known;
 }
 
-pub nests_recorded : (types : List TypeForm) (callees : Callees) (main : List ℕ) (calling : Bool) (ss : Scopes) (number t : ℕ) (ms : List Master) (k : List (Frame Value)) → Nests types callees main calling ss (scopes ms) k → Nests types callees main calling ss (scopes (owning (record { number = number; owned = record_object t }) ms)) k
+pub nests_recorded : (types : List TypeForm) (callees : Callees) (main : Option (List ℕ)) (calling : Bool) (ss : Scopes) (number t : ℕ) (ms : List Master) (k : List (Frame Value)) → Nests types callees main calling ss (scopes ms) k → Nests types callees main calling ss (scopes (owning (record { number = number; owned = record_object t }) ms)) k
 nests_recorded types callees main calling ss number t ms k n = rw (scopes_recorded number t ms) n
 
-pub nests_declared : (types : List TypeForm) (callees : Callees) (main : List ℕ) (calling : Bool) (ss : Scopes) (number x : ℕ) (ms : List Master) (k : List (Frame Value)) → Nests types callees main calling ss (scopes ms) k → Nests types callees main calling ss (scopes (owning (record { number = number; owned = declared x }) ms)) k
+pub nests_declared : (types : List TypeForm) (callees : Callees) (main : Option (List ℕ)) (calling : Bool) (ss : Scopes) (number x : ℕ) (ms : List Master) (k : List (Frame Value)) → Nests types callees main calling ss (scopes ms) k → Nests types callees main calling ss (scopes (owning (record { number = number; owned = declared x }) ms)) k
 nests_declared types callees main calling ss number x ms k n = rw (scopes_declared number x ms) n
 
 pub whole_heap : (types : List TypeForm) (ss : Scopes) (ms : List Master) (before after : List Object) → Housed after (items_of ms) → Whole types ss ms before → Whole types ss ms after
@@ -382,13 +407,32 @@ once_there us vs t none le away = split (times t us) refl
     split zero is = none is
     split (suc n) is = let apart = away (omega (arith, is)) in let all = times_append t us vs in omega (arith, all, apart, le)
 
-pub grows : (types : List TypeForm) (ss : Scopes) (number : ℕ) (rest : List Master) (heap : List Object) (ds : List DeclarationForm) (around : List ℕ) → PartNests types around ds → Alike around (all_of ss) → Whole types ss rest heap → Growing types ss (record { number = number; items = [] }) rest heap ds (collected ds ++ around)
-grows types ss number rest heap ds around part alike w = record {
+pub lacks_none : (main : Option (List ℕ)) → Lacks main []
+lacks_none None = tt
+lacks_none (Some main) = refl
+
+-- It opens these, and as if it opened some that are not open.
+pub grows_lacking : (types : List TypeForm) (main : Option (List ℕ)) (ss : Scopes) (number : ℕ) (rest : List Master) (heap : List Object) (ds : List DeclarationForm) (around lacks : List ℕ)
+    → Lacks main lacks → IsSpare types lacks (collected ds ++ around) → ((t : ℕ) → times t lacks + times t (all_of ss) ≤ 1) → PartNests types around ds → Alike around (lacks ++ all_of ss) → Whole types ss rest heap
+    → Growing types main ss (record { number = number; items = [] }) rest heap ds (collected ds ++ around)
+grows_lacking types main ss number rest heap ds around lacks lacking spare apart part alike w = record {
+  lacks = lacks;
+  lacking = lacking;
+  spare = spare;
   first = part.first;
   once = λ t. once_there (collected ds) around t
-      (λ none. let all = times_append t (collected ds) around in let same = alike t in let once = w.lone t in omega (arith, all, same, once, none))
+      (λ none.
+      let all = times_append t (collected ds) around in
+      let same = alike t in
+      let both = times_append t lacks (all_of ss) in
+      let once = apart t in
+      omega (arith, all, same, both, once, none))
       (part.once t) (part.away t);
-  all = λ t. let all = times_append t (collected ds) around in let same = alike t in omega (arith, all, same);
+  all = λ t.
+      let all = times_append t (collected ds) around in
+      let same = alike t in
+      let both = times_append t lacks (all_of ss) in
+      omega (arith, all, same, both);
   left = part.needs;
   here = λ t le. absurd (omega (arith, le));
   outer = w.needs;
@@ -404,38 +448,62 @@ grows types ss number rest heap ds around part alike w = record {
   known = w.known;
 }
 
+-- It opens these alone.
+pub grows : (types : List TypeForm) (main : Option (List ℕ)) (ss : Scopes) (number : ℕ) (rest : List Master) (heap : List Object) (ds : List DeclarationForm) (around : List ℕ) → PartNests types around ds → Alike around (all_of ss) → Whole types ss rest heap → Growing types main ss (record { number = number; items = [] }) rest heap ds (collected ds ++ around)
+grows types main ss number rest heap ds around part alike w =
+    grows_lacking types main ss number rest heap ds around [] (lacks_none main)
+    (record { known = λ t le. absurd (omega (arith, le)); needs = λ t le. absurd (omega (arith, le)) }) (λ t. let once = w.lone t in omega (arith, once)) part alike w
+
+-- What it opens, once all its collections have been created.
+abbrev pub opens : (lacks : List ℕ) → Master → List ℕ
+opens lacks m = lacks ++ opened m.items
+
+pub owns_grown : (main : Option (List ℕ)) (lacks : List ℕ) (m : Master) (ss : Scopes) (rest : List Master) → Lacks main lacks → OwnsAll main (opens lacks m ∷ ss) (scopes (m ∷ rest))
+owns_grown None lacks m ss rest lacking = tt
+owns_grown (Some main) lacks m ss rest lacking = λ t. rw lacking refl
+
 -- All its collections have been created.
-pub grown : (types : List TypeForm) (ss : Scopes) (m : Master) (rest : List Master) (heap : List Object) (ds : List DeclarationForm) (there : List ℕ) → collected ds ≡ [] → Growing types ss m rest heap ds there → Whole types (opened m.items ∷ ss) (m ∷ rest) heap × Alike there (all_of (opened m.items ∷ ss))
-grown types ss m rest heap ds there none g = (
+pub grown : (types : List TypeForm) (main : Option (List ℕ)) (ss : Scopes) (m : Master) (rest : List Master) (heap : List Object) (ds : List DeclarationForm) (there : List ℕ) → collected ds ≡ [] → (g : Growing types main ss m rest heap ds there) → Whole types (opens g.lacks m ∷ ss) (m ∷ rest) heap × Alike there (all_of (opens g.lacks m ∷ ss))
+grown types main ss m rest heap ds there none g = (
   record {
     lone = lone;
-    needs = (λ t le. open_within there (opened m.items ++ all_of ss) (reached_components types t) within (g.here t le), g.outer);
+    needs = (λ t le. open_within there (opens g.lacks m ++ all_of ss) (reached_components types t) within (needs_by t (times t g.lacks) refl le), g.outer);
     housed = housed_after heap m.items (items_of rest) g.housed;
     fit = g.fit;
-    records = (records_within types there (opened m.items ++ all_of ss) m.items within g.own, g.records);
-    covers = (λ t. omega arith, g.covers);
+    records = (records_within types there (opens g.lacks m ++ all_of ss) m.items within g.own, g.records);
+    covers = (λ t. let both = times_append t g.lacks (opened m.items) in omega (arith, both), g.covers);
     layered = (bare_layered m.items g.bare, g.layered);
     known = known;
   },
   alike,
 )
   where
-    alike : Alike there (all_of (opened m.items ∷ ss))
+    alike : Alike there (all_of (opens g.lacks m ∷ ss))
     alike t =
         let all = g.all t in
         let nothing : times t (collected ds) ≡ 0 = ap (times t) none in
-        let sum = times_append t (opened m.items) (all_of ss) in
-        omega (arith, all, nothing, sum)
+        let sum = times_append t (opens g.lacks m) (all_of ss) in
+        let both = times_append t g.lacks (opened m.items) in
+        omega (arith, all, nothing, sum, both)
 
-    lone : Lone (opened m.items ∷ ss)
+    lone : Lone (opens g.lacks m ∷ ss)
     lone t = let same = alike t in let once = g.once t in omega (arith, same, once)
 
-    within : Within there (opened m.items ++ all_of ss)
+    within : Within there (opens g.lacks m ++ all_of ss)
     within t le = let same = alike t in omega (arith, same, le)
 
-    known_by : (t n : ℕ) → times t (opened m.items) ≡ n → 1 ≤ times t (opened m.items ++ all_of ss) → is_access types t ≡ true
-    known_by t zero is le = g.known t (let sum = times_append t (opened m.items) (all_of ss) in omega (arith, sum, is, le))
-    known_by t (suc n) is le = opened_fits types t m.items (fit_before types m.items (items_of rest) g.fit) (omega (arith, is))
+    needs_by : (t n : ℕ) → times t g.lacks ≡ n → 1 ≤ times t (opens g.lacks m) → are_open there (reached_components types t) ≡ true
+    needs_by t zero is le = g.here t (let both = times_append t g.lacks (opened m.items) in omega (arith, both, is, le))
+    needs_by t (suc n) is le = g.spare.needs t (omega (arith, is))
 
-    known : (t : ℕ) → 1 ≤ times t (all_of (opened m.items ∷ ss)) → is_access types t ≡ true
-    known t le = known_by t (times t (opened m.items)) refl le
+    known_by : (t n k : ℕ) → times t (opened m.items) ≡ n → times t g.lacks ≡ k → 1 ≤ times t (opens g.lacks m ++ all_of ss) → is_access types t ≡ true
+    known_by t zero zero is lack le =
+        g.known t
+        (let sum = times_append t (opens g.lacks m) (all_of ss) in
+        let both = times_append t g.lacks (opened m.items) in
+        omega (arith, sum, both, is, lack, le))
+    known_by t zero (suc k) is lack le = g.spare.known t (omega (arith, lack))
+    known_by t (suc n) k is lack le = opened_fits types t m.items (fit_before types m.items (items_of rest) g.fit) (omega (arith, is))
+
+    known : (t : ℕ) → 1 ≤ times t (all_of (opens g.lacks m ∷ ss)) → is_access types t ≡ true
+    known t le = known_by t (times t (opened m.items)) (times t g.lacks) refl refl le

@@ -34,7 +34,7 @@ use Rattle.ada_scopes.proofs.Homes.{KeepsHome, home_has, housed_on, housed_new}
 use Rattle.ada_scopes.proofs.Control.{Nests, Goes, Whole, Nested, standing, whole_heap, nests_treating}
 
 -- What comes next nests, whatever is answered.
-abbrev pub Good : List TypeForm → Callees → (main : List ℕ) → (calling : Bool) → Next → Type 0
+abbrev pub Good : List TypeForm → Callees → (main : Option (List ℕ)) → (calling : Bool) → Next → Type 0
 Good types callees main calling (halts halt) = Unit {0}
 Good types callees main calling (moves e s) = Nested types callees main calling s
 Good types callees main calling (tells request e s) = Nested types callees main calling s
@@ -42,11 +42,11 @@ Good types callees main calling (asks request answers) = (granted : Bool) → Ne
 Good types callees main calling (picks n taking) = (i : ℕ) → i < n → Nested types callees main calling (taking i)
 
 -- The masters of a state have opened these, and what is left to do nests in them.
-abbrev pub Stands : List TypeForm → Callees → (main : List ℕ) → (calling : Bool) → Scopes → State → Type 0
+abbrev pub Stands : List TypeForm → Callees → (main : Option (List ℕ)) → (calling : Bool) → Scopes → State → Type 0
 Stands types callees main calling ss s = Whole types ss s.masters s.heap × Nests types callees main calling ss (scopes s.masters) s.control
 
 -- The innermost master of a state is being left, and this is what is left to do.
-abbrev pub Parts : List TypeForm → Callees → (main : List ℕ) → (calling : Bool) → Scopes → State → Type 0
+abbrev pub Parts : List TypeForm → Callees → (main : Option (List ℕ)) → (calling : Bool) → Scopes → State → Type 0
 Parts types callees main calling ss s = Whole types ss s.masters s.heap × (s.mode ≡ Running) × Goes types callees main calling ss (scopes s.masters) s.control
 
 -- What becomes of an object keeps its home.
@@ -62,7 +62,7 @@ keeps_returned x = record { home = refl; access = refl; listed = λ e. e }
 pub keeps_filled : (c : ℕ) (v : Value) (x : Object) → KeepsHome x (filled c v x)
 keeps_filled c v x = record { home = refl; access = refl; listed = λ e. e }
 
-module _ (types : List TypeForm) (callees : Callees) (main : List ℕ) (calling : Bool) (ss : Scopes) where
+module _ (types : List TypeForm) (callees : Callees) (main : Option (List ℕ)) (calling : Bool) (ss : Scopes) where
   -- An object changes.
   pub whole_on : (change : Object → Object) (v : Value) (s : State) → ((x : Object) → KeepsHome x (change x)) → Whole types ss s.masters s.heap → Whole types ss s.masters (on_object change s.heap v)
   whole_on change v s keeps w = whole_heap types ss s.masters s.heap (on_object change s.heap v) (housed_on change s.heap v (items_of s.masters) keeps w.housed) w

@@ -33,9 +33,9 @@ use Rattle.ada_meaning.specs.Named.{Object, State, next}
 use Rattle.ada_meaning.specs.Run.{Choice, settled, grants}
 use Rattle.ada_order.specs.Example.{InSomeRun}
 use Rattle.ada_order.proofs.Choices.{run_by}
-use Rattle.ada_scopes.specs.Scopes.{OperationsNest, IsListed, HoldsNames, IsOutlived, ComponentsAreOutlivedIn}
+use Rattle.ada_scopes.specs.Scopes.{OperationsNest, OperationsFindOpen, IsListed, HoldsNames, IsOutlived, ComponentsAreOutlivedIn}
 use Rattle.ada_scopes.specs.Example.{HoldsNearAndFar, HasObjectAbove, OutlastsTarget}
-use Rattle.ada_scopes.proofs.Operations.{none_nests}
+use Rattle.ada_scopes.proofs.Operations.{none_nests, none_open}
 use Rattle.ada_scopes.proofs.Counts.{one, times, opened_by, opened}
 use denote.RawPtr.{null_ptr}
 
@@ -285,8 +285,8 @@ loose_forms = block_form (collects 2 ∷ [])
 loose_are : stmt_forms loose ≡ loose_forms
 loose_are = simp statement_rules
 
-pub loose_operations : OperationsNest (program_form loose)
-loose_operations = none_nests (program_form loose) refl
+pub loose_operations : OperationsFindOpen (program_form loose)
+loose_operations = none_open (program_form loose) refl
 
 pub loose_well_formed : IsWellFormed (program_form loose)
 loose_well_formed = record {
@@ -366,8 +366,8 @@ passing_forms = a_stmt skips no_stmts
 passing_are : stmt_forms passing ≡ passing_forms
 passing_are = simp statement_rules
 
-pub passing_operations : OperationsNest (program_form passing)
-passing_operations = none_nests (program_form passing) refl
+pub passing_operations : OperationsFindOpen (program_form passing)
+passing_operations = none_open (program_form passing) refl
 
 pub passing_well_formed : IsWellFormed (program_form passing)
 passing_well_formed = record {

@@ -30,7 +30,7 @@ use Rattle.ada_scopes.proofs.Control.{NestsOutside, Goes, Whole, Nested, standin
 use Rattle.ada_scopes.proofs.Treatments.{OperationsHere, TreatsFirst, treating_good}
 use Rattle.ada_scopes.proofs.Evaluations.{Good, Parts, keeps_parted, keeps_finished, keeps_returned, whole_on}
 
-module _ (types : List TypeForm) (callees : Callees) (main : List ℕ) (calling : Bool) (ss : Scopes) where
+module _ (types : List TypeForm) (callees : Callees) (main : Option (List ℕ)) (calling : Bool) (ss : Scopes) where
   -- The innermost master is being left: its items go, newest first, the objects of a collection before it.
   shorter_good : (mode : Mode) (m : ℕ) (item : Item) (items : List Item) (ms : List Master) (s : State) → s.masters ≡ record { number = m; items = item ∷ items } ∷ ms → IsEmpty s.heap item item.owned → Whole types ss s.masters s.heap → s.mode ≡ Running → NestsOutside types callees main calling (all_of ss) (older ss) (older (scopes s.masters)) s.control → Nested types callees main calling (record (at (frame.Leaves mode ∷ s.control) s) { masters = shorter s.masters })
   shorter_good mode m item items ms s is empty p runs n =
@@ -101,7 +101,7 @@ module _ (types : List TypeForm) (callees : Callees) (main : List ℕ) (calling 
   backing_good v cause pool on_other s h = tt
   backing_good v cause pool (finds cell) s h = giving_good (same_pool pool cell.home.pool) v cause cell s h
 
-  pub parts_good : (bodies : List BodyForm) → BodiesNest types callees bodies → (definitions : List TypeDefinition) (k : List (Frame Value)) → (TreatsFirst k → OperationsHere callees main calling definitions) → (s : State) → s.mode ≡ Running → Whole types ss s.masters s.heap → Goes types callees main calling ss (scopes s.masters) k → Good types callees main calling (running_next named definitions bodies k s)
+  pub parts_good : (bodies : List BodyForm) → BodiesNest types callees bodies → (definitions : List TypeDefinition) (k : List (Frame Value)) → (TreatsFirst k → OperationsHere types callees main calling definitions) → (s : State) → s.mode ≡ Running → Whole types ss s.masters s.heap → Goes types callees main calling ss (scopes s.masters) k → Good types callees main calling (running_next named definitions bodies k s)
   parts_good bodies nesting definitions [] operations s runs p goes = absurd goes
   parts_good bodies nesting definitions (frame.Leaves mode ∷ k) operations s runs p goes = leave_good definitions mode s.masters (at k s) refl p runs goes
   parts_good bodies nesting definitions (frame.Treats v (frame.begins by done) tasks ∷ k) operations s runs p goes = absurd goes

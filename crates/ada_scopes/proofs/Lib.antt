@@ -10,6 +10,8 @@ pub mod Layers
 pub mod Control
 -- objects and their homes
 pub mod Homes
+-- what is not open where an operation is called
+pub mod Lacked
 -- what comes next while forms are evaluated nests
 pub mod Evaluations
 -- controlled parts are treated

@@ -16,7 +16,7 @@ use Rattle.ada_program.specs.Form.{skips, declares_record, StmtsForm, no_stmts, 
 use Rattle.ada_program.specs.ProgramForm.{BodyForm, variable_form, body_forms, program_form}
 use Rattle.ada_program.specs.WellFormed.{IsWellFormed, created_in_all, creates_from, has_collections, profile_of, have_operations, bodies_fit, stmts_fit}
 use Rattle.ada_program.specs.Nested.{callees_from, collected, is_one_of, call_nests, statements_nest, CollectionsNest}
-use Rattle.ada_scopes.specs.Scopes.{OperationsNest, OperationsNestAnywhere}
+use Rattle.ada_scopes.specs.Scopes.{OperationsFindOpen, OperationsNestAnywhere}
 use Rattle.ada_scopes.proofs.Example.{vec, no_name, access_kind, cell_of, access_to, creations_with, no_pools}
 use Rattle.ada_scopes.proofs.ShortExample.{known_by}
 
@@ -116,7 +116,7 @@ finalize_nests_there : (around : List ℕ) → ((t : ℕ) → is_one_of (collect
 finalize_nests_there around opens =
     subst (λ (bs : List BodyForm). finalize_nests bs around ≡ true) (sym bodies_are) (nests_there around (opens 1 refl))
 
-pub operations_nest : OperationsNest (program_form program)
+pub operations_nest : OperationsFindOpen (program_form program)
 operations_nest zero = (tt, tt, tt)
 operations_nest (suc zero) = (tt, tt, tt)
 operations_nest (suc (suc zero)) = (tt, tt, tt)

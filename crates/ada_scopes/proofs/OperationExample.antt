@@ -26,9 +26,9 @@ use Rattle.ada_meaning.specs.Named.{next}
 use Rattle.ada_meaning.specs.Run.{grants, takes}
 use Rattle.ada_order.specs.Example.{InSomeRun}
 use Rattle.ada_order.proofs.Choices.{run_by}
-use Rattle.ada_scopes.specs.Scopes.{OperationsNest, OperationsNestAnywhere}
+use Rattle.ada_scopes.specs.Scopes.{OperationsFindOpen, OperationsNestAnywhere}
 use Rattle.ada_scopes.specs.Example.{OutlastsWhileCalled}
-use Rattle.ada_scopes.proofs.Operations.{anywhere_nests}
+use Rattle.ada_scopes.proofs.Operations.{anywhere_open}
 use Rattle.ada_scopes.proofs.Example.{steps, vec, no_name, access_kind, cell_of, access_to, of_type, creations_with, no_pools, contains_opened}
 
 -- A component, with the numbers of the first elementary component and of the first controlled part in it.
@@ -132,8 +132,8 @@ operations_nest_anywhere (suc (suc (suc zero))) = (tt, tt, tt)
 operations_nest_anywhere (suc (suc (suc (suc zero)))) = (tt, tt, tt)
 operations_nest_anywhere (suc (suc (suc (suc (suc n))))) = (tt, tt, tt)
 
-pub operations_nest : OperationsNest (program_form program)
-operations_nest = anywhere_nests (program_form program) operations_nest_anywhere
+pub operations_nest : OperationsFindOpen (program_form program)
+operations_nest = anywhere_open (program_form program) operations_nest_anywhere
 
 -- What the main procedure owns once its newest collection is gone.
 abbrev oldest_item : List Item

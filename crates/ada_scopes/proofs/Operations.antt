@@ -9,10 +9,10 @@ use Rattle.ada_program.specs.declared.program.ProcedureNo.{ProcedureNo}
 use Rattle.ada_program.specs.declared.program.TypeDefinition.{TypeDefinition}
 use Rattle.ada_program.specs.declared.program.TypeDefinition.TheVariants as definition
 use Rattle.ada_program.specs.Controlled.{number_by, is_number, operations_in, operations_by, operations_of}
-use Rattle.ada_program.specs.Nested.{Callees, callees_of, collected}
+use Rattle.ada_program.specs.Nested.{Callees, callees_of, collected, is_one_of}
 use Rattle.ada_program.specs.ProgramForm.{TypeForm, ProgramForm, type_form}
-use Rattle.ada_program.specs.WellFormed.{finalization_in, finalization_of, is_inherited, overrides_nothing, overrides_none}
-use Rattle.ada_scopes.specs.Scopes.{NestsWhereOpen, AllNestWhereOpen, NestsAnywhere, AllNestAnywhere, OperationsNest, OperationsNestAnywhere}
+use Rattle.ada_program.specs.WellFormed.{finalization_in, finalization_of, is_access, is_inherited, overrides_nothing, overrides_none}
+use Rattle.ada_scopes.specs.Scopes.{NestsWhereOpen, AllNestWhereOpen, NestsAnywhere, AllNestAnywhere, OperationsNest, OperationsFindOpen, OperationsNestAnywhere}
 use Rattle.ada_scopes.proofs.Counts.{and_left, and_right}
 
 -- What a type overrides stands in the program's form.
@@ -39,22 +39,28 @@ operations_here callees types n all =
     (λ i. subst (λ (o : Operations). AllNestAnywhere callees o) (same_operations types i) (all i))
 
 -- Those that nest where these collections are open.
-pub operations_where_open : (opened : List ℕ) (callees : Callees) (types : List TypeDefinition) (n : ℕ) → ((t : ℕ) → AllNestWhereOpen opened callees (operations_in (finalization_of (map type_form types) t))) → AllNestWhereOpen opened callees (operations_of types n)
+pub operations_where_open : (opened : ℕ → Bool) (callees : Callees) (types : List TypeDefinition) (n : ℕ) → ((t : ℕ) → AllNestWhereOpen opened callees (operations_in (finalization_of (map type_form types) t))) → AllNestWhereOpen opened callees (operations_of types n)
 operations_where_open opened callees types n all =
     found_so (AllNestWhereOpen opened callees) (λ t. is_number n (number_by (Some t))) types
     (λ i. subst (λ (o : Operations). AllNestWhereOpen opened callees o) (same_operations types i) (all i))
 
--- Operations that nest anywhere do so where the collections of the main procedure are open.
-where_open : (opened : List ℕ) (callees : Callees) (o : Option ProcedureNo) → NestsAnywhere callees o → NestsWhereOpen opened callees o
+-- Operations that nest anywhere do so where some collections are open.
+where_open : (opened : ℕ → Bool) (callees : Callees) (o : Option ProcedureNo) → NestsAnywhere callees o → NestsWhereOpen opened callees o
 where_open opened callees None nests = tt
 where_open opened callees (Some procedure) nests = λ around open_there. nests around
 
-pub anywhere_nests : (p : ProgramForm) → OperationsNestAnywhere p → OperationsNest p
-anywhere_nests p all t = (
-  where_open (collected p.declarations) (callees_of p) (operations_in (finalization_of p.types t)).initialize (all t).0,
-  where_open (collected p.declarations) (callees_of p) (operations_in (finalization_of p.types t)).adjust (all t).1,
-  where_open (collected p.declarations) (callees_of p) (operations_in (finalization_of p.types t)).finalize (all t).2,
+all_where_open : (opened : ℕ → Bool) (p : ProgramForm) → OperationsNestAnywhere p → (t : ℕ) → AllNestWhereOpen opened (callees_of p) (operations_in (finalization_of p.types t))
+all_where_open opened p all t = (
+  where_open opened (callees_of p) (operations_in (finalization_of p.types t)).initialize (all t).0,
+  where_open opened (callees_of p) (operations_in (finalization_of p.types t)).adjust (all t).1,
+  where_open opened (callees_of p) (operations_in (finalization_of p.types t)).finalize (all t).2,
 )
+
+pub anywhere_nests : (p : ProgramForm) → OperationsNestAnywhere p → OperationsNest p
+anywhere_nests p all = all_where_open (is_access p.types) p all
+
+pub anywhere_open : (p : ProgramForm) → OperationsNestAnywhere p → OperationsFindOpen p
+anywhere_open p all = all_where_open (is_one_of (collected p.declarations)) p all
 
 -- Where no type overrides an operation, all do.
 inherits : (callees : Callees) (o : Option ProcedureNo) → is_inherited o ≡ true → NestsAnywhere callees o
@@ -80,3 +86,6 @@ none_overridden callees (u ∷ types) (suc t) is =
 
 pub none_nests : (p : ProgramForm) → overrides_none p ≡ true → OperationsNest p
 none_nests p is = anywhere_nests p (λ t. none_overridden (callees_of p) p.types t is)
+
+pub none_open : (p : ProgramForm) → overrides_none p ≡ true → OperationsFindOpen p
+none_open p is = anywhere_open p (λ t. none_overridden (callees_of p) p.types t is)

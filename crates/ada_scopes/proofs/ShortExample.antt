@@ -1,7 +1,8 @@
 -- An Initialize that creates an object with a component of an access type of a block: it is called outside that block.
 
-use Rattle.std.proofs.Common.{◌≡◌, ℕ, Bool, true, false, List, [], ◌∷◌, ◌++◌, map, refl, ap, arith, inl, inr}
+use Rattle.std.proofs.Common.{◌≡◌, ℕ, zero, suc, Bool, true, false, List, [], ◌∷◌, ◌++◌, map, refl, sym, ap, subst, arith, inl, inr}
 use Rattle.std.specs.Prelude.{None, Some, pos}
+use Rattle.std.specs.List.{slice_get}
 use Rattle.ada_program.specs.declared.program.ComponentKind.TheVariants as kind
 use Rattle.ada_program.specs.declared.program.Declaration.TheVariants as declaration
 use Rattle.ada_program.specs.declared.program.FormalMode.TheVariants.{InOut}
@@ -16,14 +17,14 @@ use Rattle.ada_program.specs.declared.program.Variable.{Variable}
 use Rattle.ada_program.specs.declared.program.VariableKind.TheVariants as variable
 use Rattle.ada_program.specs.Form.{expression_form, stmt_form, skips, collects, declares_record, StmtsForm, no_stmts, a_stmt, no_handlers, stmt_forms, statement_rules}
 use Rattle.ada_program.specs.ProgramForm.{BodyForm, variable_form, body_forms, program_form}
-use Rattle.ada_program.specs.WellFormed.{IsWellFormed, created_in_all, creates_from, has_collections, profile_of, have_operations, bodies_fit, stmts_fit}
-use Rattle.ada_program.specs.Nested.{callees_from, collected, statements_nest, CollectionsNest}
+use Rattle.ada_program.specs.WellFormed.{IsWellFormed, is_access, created_in_all, creates_from, has_collections, profile_of, have_operations, bodies_fit, stmts_fit}
+use Rattle.ada_program.specs.Nested.{callees_from, collected, is_one_of, call_nests, statements_nest, CollectionsNest}
 use Rattle.ada_meaning.specs.declared.state.Id.{Id}
 use Rattle.ada_meaning.specs.State.{record_object, Item}
 use Rattle.ada_meaning.specs.Named.{Object, State, next}
 use Rattle.ada_order.specs.Example.{InSomeRun}
 use Rattle.ada_order.proofs.Choices.{run_by}
-use Rattle.ada_scopes.specs.Scopes.{IsListed, HoldsNames, IsOutlived, ComponentsAreOutlivedIn}
+use Rattle.ada_scopes.specs.Scopes.{OperationsNest, IsListed, HoldsNames, IsOutlived, ComponentsAreOutlivedIn}
 use Rattle.ada_scopes.proofs.Example.{steps, vec, no_name, access_kind, cell_of, access_to, block_with, block_form, creations_with, no_pools, contains_opened}
 
 abbrev operations : Operations
@@ -113,6 +114,28 @@ nests = record {
       refl;
   handlers = refl;
 }
+
+-- Whether the Initialize nests where these collections are open, if the procedures of the program have these bodies.
+abbrev initialize_nests : List BodyForm → (around : List ℕ) → Bool
+initialize_nests bs around = call_nests (slice_get (callees_from (program_form program).types [] bs) 0) around
+
+-- It does where that of its object's component is.
+nests_there : (around : List ℕ) → is_one_of around 1 ≡ true → initialize_nests bodies around ≡ true
+nests_there around is = rw is refl
+
+initialize_nests_there : (around : List ℕ) → ((t : ℕ) → is_access (program_form program).types t ≡ true → is_one_of around t ≡ true) → initialize_nests (body_forms program) around ≡ true
+initialize_nests_there around opens =
+    subst (λ (bs : List BodyForm). initialize_nests bs around ≡ true) (sym bodies_are) (nests_there around (opens 1 refl))
+
+pub operations_nest : OperationsNest (program_form program)
+operations_nest zero = (tt, tt, tt)
+operations_nest (suc zero) = (tt, tt, tt)
+operations_nest (suc (suc zero)) = (tt, tt, tt)
+operations_nest (suc (suc (suc zero))) = (initialize_nests_there, tt, tt)
+operations_nest (suc (suc (suc (suc zero)))) = (tt, tt, tt)
+operations_nest (suc (suc (suc (suc (suc zero))))) = (tt, tt, tt)
+operations_nest (suc (suc (suc (suc (suc (suc zero)))))) = (tt, tt, tt)
+operations_nest (suc (suc (suc (suc (suc (suc (suc n))))))) = (tt, tt, tt)
 
 -- What this object's component names does not last as long.
 abbrev IsShort : State → Type 0

@@ -31,12 +31,12 @@ use Rattle.ada_meaning.specs.Step.{moves, has_parts, all_tasks, at, older, ownin
 use Rattle.ada_meaning.specs.Named.{Object, State, next, named, same, look, lent, parted, an_integer, filled, reads_boolean, reads_null, reads_integer, unary_given, binary_given}
 use Rattle.ada_scopes.proofs.Counts.{one, times, opened, Scopes, scopes, all_of}
 use Rattle.ada_scopes.proofs.Texts.{StatementNests, StatementsNest, BranchesNest, HandlersNest, BodyNests, BodiesNest}
-use Rattle.ada_scopes.proofs.Control.{Alike, Where, OwnsAll, RecordHere, FrameNests, behind, is_confine, Either, Around, Nests, NestsOutside, Goes, Whole, Growing, Begins, Nested, standing, beginning, parting, resting, outside_alike, whole_declared, nests_declared, whole_recorded, nests_recorded, nests_treating, grows, grown}
+use Rattle.ada_scopes.proofs.Control.{Alike, Where, OwnsAll, RecordHere, FrameNests, behind, is_confine, Either, Around, Nests, NestsOutside, Goes, Whole, Growing, Begins, Nested, standing, beginning, parting, resting, outside_alike, whole_declared, nests_declared, whole_recorded, nests_recorded, nests_treating, opens, owns_grown, grows, grown}
 use Rattle.ada_scopes.proofs.Evaluations.{Good, Stands, keeps_filled, keeps_parted, whole_on, path_good, holder_good, record_holder_good, refers_good, open_good, opens_good, expression_good, null_test_good, links_good, outcome_good, items_good, copies_good, record_target_good, store_record_good, record_assign_good, assigns_good, new_good, right_good, free_good, free_in_good, end_good, back_good}
 use Rattle.ada_scopes.proofs.Treatments.{OperationsHere, IsTreatment, TreatsFirst, awaited_good, either_good, treats_good}
 use Rattle.ada_scopes.proofs.Leavings.{parts_good}
 
-module _ (types : List TypeForm) (callees : Callees) (main : List ℕ) (calling : Bool) (bodies : List BodyForm) (nesting : BodiesNest types callees bodies) (ss : Scopes) where
+module _ (types : List TypeForm) (callees : Callees) (main : Option (List ℕ)) (calling : Bool) (bodies : List BodyForm) (nesting : BodiesNest types callees bodies) (ss : Scopes) where
   -- What is behind a frame that has been taken off.
   abbrev Behind : Frame Value → Scopes → List (Frame Value) → Type 0
   Behind f vs k =
@@ -167,7 +167,7 @@ module _ (types : List TypeForm) (callees : Callees) (main : List ℕ) (calling 
     masters = refl;
     control = refl;
     runs = runs;
-    growing = grows types ss s.next s.masters s.heap b.declarations nest.0 nest.2.part nest.1 h.0;
+    growing = grows types main ss s.next s.masters s.heap b.declarations nest.0 nest.2.part nest.1 h.0;
     statements = nest.2.statements;
     handlers = nest.2.handlers;
     nests = inr (tt, h.1);
@@ -201,7 +201,7 @@ module _ (types : List TypeForm) (callees : Callees) (main : List ℕ) (calling 
     masters = refl;
     control = refl;
     runs = runs;
-    growing = grows types ss s.next s.masters s.heap ds around nest.0 alike h.0;
+    growing = grows types main ss s.next s.masters s.heap ds around nest.0 alike h.0;
     statements = nest.1;
     handlers = nest.2;
     nests = inr h.1;
@@ -216,19 +216,19 @@ module _ (types : List TypeForm) (callees : Callees) (main : List ℕ) (calling 
   line_good (Some i) s h = standing ss h.0 h.1
 
   -- A record object is made, with whatever values: what it needs is open.
-  made_good : (definitions : List TypeDefinition) (x t : ℕ) (by : Birth) (values : List Value) (s : State) → RecordHere types (all_of ss) t → OwnsAll ss (scopes s.masters) → Stands types callees main calling ss s → Nested types callees main calling (made named definitions x t by values s)
+  made_good : (definitions : List TypeDefinition) (x t : ℕ) (by : Birth) (values : List Value) (s : State) → RecordHere types (all_of ss) t → OwnsAll main ss (scopes s.masters) → Stands types callees main calling ss s → Nested types callees main calling (made named definitions x t by values s)
   made_good definitions x t by values s opens some h =
       standing ss
-      (whole_recorded types ss (height s.masters) t s.masters s.heap (record_cell named definitions t (height s.masters) values) opens.0 some refl refl refl opens.1 opens.2.0 opens.2.1 h.0)
+      (whole_recorded types ss (height s.masters) t s.masters s.heap (record_cell named definitions t (height s.masters) values) opens.0 main some refl refl refl opens.1 opens.2.0 opens.2.1 h.0)
       (nests_treating types callees main calling ss (scopes (owning (record { number = height s.masters; owned = record_object t }) s.masters)) (Names (record { 0 = length s.heap })) (frame.begins by []) (all_tasks definitions t PartsFirst) s.control
       (nests_recorded types callees main calling ss (height s.masters) t s.masters s.control h.1))
 
-  record_good : (definitions : List TypeDefinition) (x t : ℕ) (initial : Option (List ItemForm)) (s : State) → RecordHere types (all_of ss) t → OwnsAll ss (scopes s.masters) → Stands types callees main calling ss s → Good types callees main calling (record_next named definitions x t initial s)
+  record_good : (definitions : List TypeDefinition) (x t : ℕ) (initial : Option (List ItemForm)) (s : State) → RecordHere types (all_of ss) t → OwnsAll main ss (scopes s.masters) → Stands types callees main calling ss s → Good types callees main calling (record_next named definitions x t initial s)
   record_good definitions x t None s opens some h = made_good definitions x t Creation (initial_values named (reached_of definitions t)) s opens some h
   record_good definitions x t (Some items) s opens some h = standing ss h.0 (tt, ((opens, some), h.1))
 
   -- Declarations of a part whose collections have all been created.
-  elaborated_good : (definitions : List TypeDefinition) (ds : List DeclarationForm) (fs : StmtsForm) (hs : HandlersForm) (s : State) → Whole types ss s.masters s.heap → FrameNests types callees calling ss (scopes s.masters) (frame.Elaborates ds fs hs) → NestsOutside types callees main calling (all_of ss) (older ss) (older (scopes s.masters)) s.control → Good types callees main calling (declarations_next named definitions ds fs hs s)
+  elaborated_good : (definitions : List TypeDefinition) (ds : List DeclarationForm) (fs : StmtsForm) (hs : HandlersForm) (s : State) → Whole types ss s.masters s.heap → FrameNests types callees main calling ss (scopes s.masters) (frame.Elaborates ds fs hs) → NestsOutside types callees main calling (all_of ss) (older ss) (older (scopes s.masters)) s.control → Good types callees main calling (declarations_next named definitions ds fs hs s)
   elaborated_good definitions [] fs hs s w nest n = standing ss w ((nest.1.0, nest.1.1, nest.1.2.0), ((nest.1.0, nest.1.1, nest.1.2.1), (nest.2, n)))
   elaborated_good definitions (creates_pool pool ∷ ds) fs hs s w nest n = absurd (cc (nest.0))
   elaborated_good definitions (collects access ∷ ds) fs hs s w nest n = absurd (cc (nest.0))
@@ -239,7 +239,7 @@ module _ (types : List TypeForm) (callees : Callees) (main : List ℕ) (calling 
       (w, ((nest.0, (nest.1.0, nest.1.1, (nest.1.2.0, nest.1.2.1, open_there.2)), nest.2), n))
 
   -- Each frame that is taken off.
-  frame_good : (definitions : List TypeDefinition) (f : Frame Value) → (IsTreatment f → OperationsHere callees main calling definitions) → (s : State) → s.mode ≡ Running → Whole types ss s.masters s.heap → FrameNests types callees calling ss (scopes s.masters) f → Behind f (scopes s.masters) s.control → Good types callees main calling (frame_next named definitions bodies f s)
+  frame_good : (definitions : List TypeDefinition) (f : Frame Value) → (IsTreatment f → OperationsHere types callees main calling definitions) → (s : State) → s.mode ≡ Running → Whole types ss s.masters s.heap → FrameNests types callees main calling ss (scopes s.masters) f → Behind f (scopes s.masters) s.control → Good types callees main calling (frame_next named definitions bodies f s)
   frame_good definitions (frame.Elaborates ds fs hs) operations s runs w nest n = elaborated_good definitions ds fs hs s w nest n
   frame_good definitions (frame.Does fs) operations s runs w nest n = stmts_good definitions fs s runs nest (w, n)
   frame_good definitions (frame.Decides fs branches) operations s runs w nest n = decided_good fs branches (reads_boolean (newest named s)) (popped s) nest (w, n)
@@ -297,7 +297,7 @@ module _ (types : List TypeForm) (callees : Callees) (main : List ℕ) (calling 
   frame_good definitions (frame.FreesIn access c) operations s runs w nest n = free_in_good types callees main calling ss definitions access (newest named s) c (look s.heap (newest named s)) (popped s) (w, n)
   frame_good definitions (frame.ClearsIn o c) operations s runs w nest n = store_good o c Null (look s.heap o) s (w, n)
 
-  stands_good : (definitions : List TypeDefinition) (k : List (Frame Value)) → (TreatsFirst k → OperationsHere callees main calling definitions) → (s : State) → s.mode ≡ Running → Whole types ss s.masters s.heap → Nests types callees main calling ss (scopes s.masters) k → Good types callees main calling (running_next named definitions bodies k s)
+  stands_good : (definitions : List TypeDefinition) (k : List (Frame Value)) → (TreatsFirst k → OperationsHere types callees main calling definitions) → (s : State) → s.mode ≡ Running → Whole types ss s.masters s.heap → Nests types callees main calling ss (scopes s.masters) k → Good types callees main calling (running_next named definitions bodies k s)
   stands_good definitions [] operations s runs w n = absurd n
   stands_good definitions (f ∷ k) operations s runs w n = frame_good definitions f operations (at k s) runs w n.0 n.1
 
@@ -318,7 +318,7 @@ module _ (types : List TypeForm) (callees : Callees) (main : List ℕ) (calling 
   handlers_land us around e (a_handler choices fs hs) alike nest =
       handler_here us around (some_takes e choices) fs (handler_of e hs) alike nest.0 (handlers_land us around e hs alike nest.1)
 
-  raised_lands : (vs : Scopes) (e : Exception) (f : Frame Value) → FrameNests types callees calling ss vs f → LandsHere (all_of ss) (landing (Raising e) f)
+  raised_lands : (vs : Scopes) (e : Exception) (f : Frame Value) → FrameNests types callees main calling ss vs f → LandsHere (all_of ss) (landing (Raising e) f)
   raised_lands vs e (frame.Handles hs) nest = handlers_land (all_of ss) nest.0 e hs nest.1 nest.2
   raised_lands vs e f nest = tt
 
@@ -331,7 +331,7 @@ module _ (types : List TypeForm) (callees : Callees) (main : List ℕ) (calling 
   exit_lands us true otherwise_at lands = tt
   exit_lands us false otherwise_at lands = lands
 
-  lands : (vs : Scopes) (mode : Mode) (f : Frame Value) → FrameNests types callees calling ss vs f → LandsHere (all_of ss) (landing mode f)
+  lands : (vs : Scopes) (mode : Mode) (f : Frame Value) → FrameNests types callees main calling ss vs f → LandsHere (all_of ss) (landing mode f)
   lands vs Running f nest = tt
   lands vs (Raising e) f nest = raised_lands vs e f nest
   lands vs Exiting f nest = exit_lands (all_of ss) (is_loop f) (operation_landing f) (none_lands f)
@@ -402,13 +402,13 @@ module _ (types : List TypeForm) (callees : Callees) (main : List ℕ) (calling 
   jump_good mode [] s jumps w n = absurd n
   jump_good mode (f ∷ k) s jumps w n = unwound_good f mode (at k s) jumps (lands (scopes s.masters) mode f n.0) w n.1
 
-  standing_good : (definitions : List TypeDefinition) (mode : Mode) (s : State) → (TreatsFirst s.control → OperationsHere callees main calling definitions) → s.mode ≡ mode → Stands types callees main calling ss s → Good types callees main calling (mode_next named definitions bodies mode s)
+  standing_good : (definitions : List TypeDefinition) (mode : Mode) (s : State) → (TreatsFirst s.control → OperationsHere types callees main calling definitions) → s.mode ≡ mode → Stands types callees main calling ss s → Good types callees main calling (mode_next named definitions bodies mode s)
   standing_good definitions Running s operations is h = stands_good definitions s.control operations s is h.0 h.1
   standing_good definitions (Raising e) s operations is h = jump_good (Raising e) s.control s tt h.0 h.1
   standing_good definitions Exiting s operations is h = jump_good Exiting s.control s tt h.0 h.1
   standing_good definitions Returning s operations is h = jump_good Returning s.control s tt h.0 h.1
 
-module _ (types : List TypeForm) (callees : Callees) (main : List ℕ) (calling : Bool) (bodies : List BodyForm) (nesting : BodiesNest types callees bodies) where
+module _ (types : List TypeForm) (callees : Callees) (main : Option (List ℕ)) (calling : Bool) (bodies : List BodyForm) (nesting : BodiesNest types callees bodies) where
   -- A part begins: its collections are created before its first variable.
   all_objects : (ds : List DeclarationForm) → list_all is_object ds ≡ true → collected ds ≡ []
   all_objects [] is = refl
@@ -417,21 +417,24 @@ module _ (types : List TypeForm) (callees : Callees) (main : List ℕ) (calling 
   all_objects (declares x right ∷ ds) is = all_objects ds is
   all_objects (declares_record x t initial ∷ ds) is = all_objects ds is
 
-  created_good : (definitions : List TypeDefinition) (ds : List DeclarationForm) (fs : StmtsForm) (hs : HandlersForm) (ss : Scopes) (m : Master) (rest : List Master) (there : List ℕ) (s : State) → s.masters ≡ m ∷ rest → list_all is_object ds ≡ true → Growing types ss m rest s.heap ds there → StatementsNest types callees there fs → HandlersNest types callees there hs → NestsOutside types callees main calling there ss (scopes rest) s.control → Good types callees main calling (declarations_next named definitions ds fs hs s)
+  created_good : (definitions : List TypeDefinition) (ds : List DeclarationForm) (fs : StmtsForm) (hs : HandlersForm) (ss : Scopes) (m : Master) (rest : List Master) (there : List ℕ) (s : State) → s.masters ≡ m ∷ rest → list_all is_object ds ≡ true → Growing types main ss m rest s.heap ds there → StatementsNest types callees there fs → HandlersNest types callees there hs → NestsOutside types callees main calling there ss (scopes rest) s.control → Good types callees main calling (declarations_next named definitions ds fs hs s)
   created_good definitions ds fs hs ss m rest there s is objects g nest handled n =
-      let whole = grown types ss m rest s.heap ds there (all_objects ds objects) g in
-      let us = opened m.items ∷ ss in
+      let whole = grown types main ss m rest s.heap ds there (all_objects ds objects) g in
+      let us = opens g.lacks m ∷ ss in
       elaborated_good types callees main calling bodies nesting us definitions ds fs hs s (subst (λ (ms : List Master). Whole types us ms s.heap) (sym is) whole.0)
-      (objects, (there, whole.1, (nest, handled, g.coming)), subst (λ (ms : List Master). OwnsAll us (scopes ms)) (sym is) (λ t. refl))
+      (objects, (there, whole.1, (nest, handled, g.coming)), subst (λ (ms : List Master). OwnsAll main us (scopes ms)) (sym is) (owns_grown main g.lacks m ss rest g.lacking))
       (subst (λ (ms : List Master). NestsOutside types callees main calling (all_of us) ss (older (scopes ms)) s.control) (sym is)
       (outside_alike main there (all_of us) (scopes rest) s.control (Nests types callees main calling ss (scopes rest) s.control) whole.1 n))
 
-  new_need : (ss : Scopes) (m : Master) (rest : List Master) (heap : List Object) (access : ℕ) (ds : List DeclarationForm) (there : List ℕ) → Growing types ss m rest heap (collects access ∷ ds) there → (t : ℕ) (b : Bool) → (access == t) ≡ b → 1 ≤ one b + times t (opened m.items) → are_open there (reached_components types t) ≡ true
+  new_need : (ss : Scopes) (m : Master) (rest : List Master) (heap : List Object) (access : ℕ) (ds : List DeclarationForm) (there : List ℕ) → Growing types main ss m rest heap (collects access ∷ ds) there → (t : ℕ) (b : Bool) → (access == t) ≡ b → 1 ≤ one b + times t (opened m.items) → are_open there (reached_components types t) ≡ true
   new_need ss m rest heap access ds there g t true same le = let once : one (access == t) ≡ 1 = ap one same in g.left t (omega (arith, once))
   new_need ss m rest heap access ds there g t false same le = g.here t (omega (arith, le))
 
-  collects_more : (ss : Scopes) (m : Master) (rest : List Master) (heap : List Object) (number access : ℕ) (pool : Option ℕ) (ds : List DeclarationForm) (there : List ℕ) → Growing types ss m rest heap (collects access ∷ ds) there → Growing types ss (record m { items = record { number = number; owned = collection access pool } ∷ m.items }) rest heap ds there
+  collects_more : (ss : Scopes) (m : Master) (rest : List Master) (heap : List Object) (number access : ℕ) (pool : Option ℕ) (ds : List DeclarationForm) (there : List ℕ) → Growing types main ss m rest heap (collects access ∷ ds) there → Growing types main ss (record m { items = record { number = number; owned = collection access pool } ∷ m.items }) rest heap ds there
   collects_more ss m rest heap number access pool ds there g = record {
+    lacks = g.lacks;
+    lacking = g.lacking;
+    spare = g.spare;
     first = g.first;
     once = g.once;
     all = λ t. let all = g.all t in omega (arith, all);
@@ -454,8 +457,11 @@ module _ (types : List TypeForm) (callees : Callees) (main : List ℕ) (calling 
       of_access = let once : one (access == access) ≡ 1 = ap one (eq-eqb access access refl) in g.accesses access (omega (arith, once))
 
   -- A pool is created, which opens no collection.
-  pools_more : (ss : Scopes) (m : Master) (rest : List Master) (heap : List Object) (number declaration pool : ℕ) (ds : List DeclarationForm) (there : List ℕ) → Growing types ss m rest heap (creates_pool declaration ∷ ds) there → Growing types ss (record m { items = record { number = number; owned = storage_pool declaration pool } ∷ m.items }) rest heap ds there
+  pools_more : (ss : Scopes) (m : Master) (rest : List Master) (heap : List Object) (number declaration pool : ℕ) (ds : List DeclarationForm) (there : List ℕ) → Growing types main ss m rest heap (creates_pool declaration ∷ ds) there → Growing types main ss (record m { items = record { number = number; owned = storage_pool declaration pool } ∷ m.items }) rest heap ds there
   pools_more ss m rest heap number declaration pool ds there g = record {
+    lacks = g.lacks;
+    lacking = g.lacking;
+    spare = g.spare;
     first = g.first;
     once = g.once;
     all = g.all;
@@ -474,7 +480,7 @@ module _ (types : List TypeForm) (callees : Callees) (main : List ℕ) (calling 
     known = g.known;
   }
 
-  begins_good : (definitions : List TypeDefinition) (ds : List DeclarationForm) (fs : StmtsForm) (hs : HandlersForm) (ss : Scopes) (m : Master) (rest : List Master) (there : List ℕ) (s : State) → s.masters ≡ m ∷ rest → s.mode ≡ Running → Growing types ss m rest s.heap ds there → StatementsNest types callees there fs → HandlersNest types callees there hs → NestsOutside types callees main calling there ss (scopes rest) s.control → Good types callees main calling (declarations_next named definitions ds fs hs s)
+  begins_good : (definitions : List TypeDefinition) (ds : List DeclarationForm) (fs : StmtsForm) (hs : HandlersForm) (ss : Scopes) (m : Master) (rest : List Master) (there : List ℕ) (s : State) → s.masters ≡ m ∷ rest → s.mode ≡ Running → Growing types main ss m rest s.heap ds there → StatementsNest types callees there fs → HandlersNest types callees there hs → NestsOutside types callees main calling there ss (scopes rest) s.control → Good types callees main calling (declarations_next named definitions ds fs hs s)
   begins_good definitions [] fs hs ss m rest there s is runs g nest handled n = created_good definitions [] fs hs ss m rest there s is refl g nest handled n
   begins_good definitions (declares x right ∷ ds) fs hs ss m rest there s is runs g nest handled n = created_good definitions (declares x right ∷ ds) fs hs ss m rest there s is g.first g nest handled n
   begins_good definitions (declares_record x t initial ∷ ds) fs hs ss m rest there s is runs g nest handled n =
@@ -525,7 +531,7 @@ module _ (types : List TypeForm) (callees : Callees) (main : List ℕ) (calling 
   nothing_next definitions s ends Returning = subst (λ (k : List (Frame Value)). Good types callees main calling (jump_next named Returning k s)) (sym ends) tt
 
   -- A state that nests. Operations need to nest only where a treatment is what is done next.
-  pub next_good : (definitions : List TypeDefinition) (s : State) → (TreatsFirst s.control → OperationsHere callees main calling definitions) → Nested types callees main calling s → Good types callees main calling (next definitions bodies s)
+  pub next_good : (definitions : List TypeDefinition) (s : State) → (TreatsFirst s.control → OperationsHere types callees main calling definitions) → Nested types callees main calling s → Good types callees main calling (next definitions bodies s)
   unfolding next
   next_good definitions s operations (standing ss w n) = standing_good types callees main calling bodies nesting ss definitions s.mode s operations refl (w, n)
   next_good definitions s operations (beginning b) =

@@ -12,7 +12,7 @@ use Rattle.ada_meaning.specs.State.{declared, collection, Item, Master}
 use Rattle.ada_meaning.specs.Named.{Object, State}
 use Rattle.ada_meaning.specs.Law.{items_of}
 use Rattle.ada_order.specs.Example.{InSomeRun}
-use Rattle.ada_scopes.specs.Scopes.{InItsRuns, CollectTwoTypes, AreObjectsFirst, OperationsNest, OperationsNestAnywhere, lasting, IsOpenIn, IsListed, HoldsNames, ComponentsAreOutlivedIn}
+use Rattle.ada_scopes.specs.Scopes.{InItsRuns, CollectTwoTypes, AreObjectsFirst, OperationsNest, OperationsFindOpen, OperationsNestAnywhere, lasting, IsOpenIn, IsListed, HoldsNames, ComponentsAreOutlivedIn}
 
 -- A block, or the body of a procedure, is entered inside the main procedure. An object's first component is of an access type of the main procedure, and
 -- its second one of an access type of the block or of the body.
@@ -71,7 +71,7 @@ OrderIsNeeded = HasObjectBelow (declares 0 nothing ∷ creates_pool 0 ∷ []) ×
 
 -- A well-formed program has an object that lasts longer than what its component names: the component's type has its collection in a block.
 abbrev pub NestingIsNeeded : Type 0
-NestingIsNeeded = (program : Program) × IsWellFormed (program_form program) × OperationsNest (program_form program) × (ComponentsAreOutlivedIn program → ⊥)
+NestingIsNeeded = (program : Program) × IsWellFormed (program_form program) × OperationsFindOpen (program_form program) × (ComponentsAreOutlivedIn program → ⊥)
 
 -- An object is in its collection, while the collection of what its component names is gone.
 pub record OutlastsTarget (program : Program) (s : State) : Type 0 where
@@ -87,7 +87,7 @@ pub record OutlastsTarget (program : Program) (s : State) : Type 0 where
 abbrev pub CollectionsGoOneByOne : Type 0
 CollectionsGoOneByOne =
     (program : Program) × IsWellFormed (program_form program) × CollectionsNest (program_form program)
-    × OperationsNest (program_form program) × InSomeRun program (λ events last. OutlastsTarget program last)
+    × OperationsFindOpen (program_form program) × InSomeRun program (λ events last. OutlastsTarget program last)
 
 -- So it is while the body of a Finalize runs, which has a master of its own.
 pub record OutlastsWhileCalled (program : Program) (s : State) : Type 0 where
@@ -101,14 +101,14 @@ pub record OutlastsWhileCalled (program : Program) (s : State) : Type 0 where
 abbrev pub OperationsAreCalled : Type 0
 OperationsAreCalled =
     (program : Program) × IsWellFormed (program_form program) × CollectionsNest (program_form program)
-    × OperationsNest (program_form program) × InSomeRun program (λ events last. OutlastsWhileCalled program last)
+    × OperationsFindOpen (program_form program) × InSomeRun program (λ events last. OutlastsWhileCalled program last)
 
 -- A well-formed program whose collections and operations nest has an operation that does not nest just anywhere: a Finalize declares a record object with a
 -- component of an access type of the main procedure.
 abbrev pub OperationsMayFindOpen : Type 0
 OperationsMayFindOpen =
     (program : Program) × IsWellFormed (program_form program) × CollectionsNest (program_form program)
-    × OperationsNest (program_form program) × (OperationsNestAnywhere (program_form program) → ⊥)
+    × OperationsFindOpen (program_form program) × (OperationsNestAnywhere (program_form program) → ⊥)
 
 -- A well-formed program whose collections nest has a run that comes to two collections of one access type: a Finalize creates one, and then it is called for
 -- an object of its own.
@@ -117,7 +117,9 @@ OperationsMustNest =
     (program : Program) × IsWellFormed (program_form program) × CollectionsNest (program_form program)
     × (InItsRuns program (λ last. AllPairs CollectTwoTypes (items_of last.masters)) → ⊥)
 
--- One has a run that comes to an object that lasts longer than what its component names: an Initialize creates it, where the collection of that is not open.
+-- One whose operations nest has a run that comes to an object that lasts longer than what its component names: an Initialize creates it, where the collection
+-- of that is not open.
 abbrev pub OperationsMustFindOpen : Type 0
 OperationsMustFindOpen =
-    (program : Program) × IsWellFormed (program_form program) × CollectionsNest (program_form program) × (ComponentsAreOutlivedIn program → ⊥)
+    (program : Program) × IsWellFormed (program_form program) × CollectionsNest (program_form program) × OperationsNest (program_form program)
+    × (ComponentsAreOutlivedIn program → ⊥)

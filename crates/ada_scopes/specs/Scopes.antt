@@ -9,7 +9,7 @@ use Rattle.ada_program.specs.declared.program.TypeNo.{TypeNo}
 use Rattle.ada_program.specs.declared.program.VariableKind.TheVariants as variable
 use Rattle.ada_program.specs.Controlled.{operations_in}
 use Rattle.ada_program.specs.ProgramForm.{TypeForm, ProgramForm, program_form}
-use Rattle.ada_program.specs.WellFormed.{IsWellFormed, overrides_none, finalization_of, reached_components, kind_among}
+use Rattle.ada_program.specs.WellFormed.{IsWellFormed, is_access, overrides_none, finalization_of, reached_components, kind_among}
 use Rattle.ada_program.specs.Nested.{Callees, call_nests, callees_of, collected, is_one_of, CollectionsNest}
 use Rattle.ada_meaning.specs.declared.state.Id.{Id}
 use Rattle.ada_meaning.specs.declared.state.Value.{Value}
@@ -27,27 +27,37 @@ abbrev pub InItsRuns : Program → (State → Type 0) → Type 0
 InItsRuns program P =
     (input : List ℤ) (events : List Event) (last : State) → Run program (first_state program input) events last → P last
 
--- A procedure that overrides an operation, if one does, nests wherever these collections are open, whatever else is: what it and the procedures that it calls
--- create is no collection, and no record object whose components hold values of other access types.
-abbrev pub NestsWhereOpen : (opened : List ℕ) → Callees → Option ProcedureNo → Type 0
+-- A procedure that overrides an operation, if one does, nests wherever the collections of these access types are open, whatever else is: what it and the
+-- procedures that it calls create is no collection of one of these, and no record object whose components hold values of other access types.
+abbrev pub NestsWhereOpen : (opened : ℕ → Bool) → Callees → Option ProcedureNo → Type 0
 NestsWhereOpen opened callees None = Unit {0}
 NestsWhereOpen opened callees (Some procedure) =
-    (around : List ℕ) → ((t : ℕ) → is_one_of opened t ≡ true → is_one_of around t ≡ true) → call_nests (slice_get callees procedure.0) around ≡ true
+    (around : List ℕ) → ((t : ℕ) → opened t ≡ true → is_one_of around t ≡ true) → call_nests (slice_get callees procedure.0) around ≡ true
 
 -- So does each operation of a type.
-abbrev pub AllNestWhereOpen : (opened : List ℕ) → Callees → Operations → Type 0
+abbrev pub AllNestWhereOpen : (opened : ℕ → Bool) → Callees → Operations → Type 0
 AllNestWhereOpen opened callees o =
     NestsWhereOpen opened callees o.initialize × NestsWhereOpen opened callees o.adjust × NestsWhereOpen opened callees o.finalize
 
--- So does each operation of the types of a program (7.6), where the collections are open that the main procedure declares: an operation is called where an
--- object is created, assigned to, freed or left, whatever else is open there.
+-- So does each operation of the types of a program (7.6), wherever the collections of all access types are open: what it creates is no collection. It is
+-- called where an object is created, assigned to, freed or left, whichever collections are open there.
 abbrev pub OperationsNest : ProgramForm → Type 0
-OperationsNest p = (t : ℕ) → AllNestWhereOpen (collected p.declarations) (callees_of p) (operations_in (finalization_of p.types t))
+OperationsNest p = (t : ℕ) → AllNestWhereOpen (is_access p.types) (callees_of p) (operations_in (finalization_of p.types t))
+
+-- So does each where the collections are open that the main procedure declares: then what its record objects need is open where it is called, if the main
+-- procedure is not being left.
+abbrev pub OperationsFindOpen : ProgramForm → Type 0
+OperationsFindOpen p = (t : ℕ) → AllNestWhereOpen (is_one_of (collected p.declarations)) (callees_of p) (operations_in (finalization_of p.types t))
 
 -- Each program that is well formed, and whose collections and operations nest, has a property.
 abbrev pub WhereCollectionsNest : (Program → Type 0) → Type 0
 WhereCollectionsNest P =
     (program : Program) → IsWellFormed (program_form program) → CollectionsNest (program_form program) → OperationsNest (program_form program) → P program
+
+-- So has each whose operations find open what they need.
+abbrev pub WhereOperationsFindOpen : (Program → Type 0) → Type 0
+WhereOperationsFindOpen P =
+    (program : Program) → IsWellFormed (program_form program) → CollectionsNest (program_form program) → OperationsFindOpen (program_form program) → P program
 
 -- A procedure that overrides an operation, if one does, nests wherever it is called: what it and the procedures that it calls create is no collection, and
 -- no record object whose components hold access values.
@@ -209,9 +219,9 @@ AreOutlived types s =
 abbrev pub ComponentsAreOutlivedIn : Program → Type 0
 ComponentsAreOutlivedIn program = InItsRuns program (AreOutlived (program_form program).types)
 
--- Collections last as long as the objects whose components need them (3.10.2, 7.6.1).
+-- Collections last as long as the objects whose components need them (3.10.2, 7.6.1), where operations find open what they need.
 abbrev pub ComponentsAreOutlived : Type 0
-ComponentsAreOutlived = WhereCollectionsNest ComponentsAreOutlivedIn
+ComponentsAreOutlived = WhereOperationsFindOpen ComponentsAreOutlivedIn
 
 -- A component of the one object names the other, and both are in their collections.
 abbrev pub Holds : List Object → (holder held : Object) → Type 0

@@ -35,9 +35,9 @@ pub fn objects_lie_in_collections()
     ensures { ObjectsLieInCollections }
 {}
 
-/// The collection of what a component names is open, in the master of the object's home or in an outer one (3.10.2). Only
-/// while such a master is being left, it may have gone before the object's own. Where no type overrides an operation, that
-/// is the innermost one.
+/// Where operations find open what they need, the collection of what a component names is open, in the master of the
+/// object's home or in an outer one (3.10.2). Only while such a master is being left, it may have gone before the object's
+/// own. Where no type overrides an operation, that is the innermost one.
 pub fn components_are_outlived()
     ensures outlived { ComponentsAreOutlived }
     ensures innermost { OnlyInnermostIsLeft }
@@ -87,7 +87,7 @@ pub fn operations_may_find_open()
 
 /// That operations nest is needed: where a Finalize creates a collection and an object of its own type, it is called while
 /// its collection is open, and creates that once more. Where an Initialize creates an object with a component of an access
-/// type of a block, the object is there without a collection for what the component names.
+/// type of a block, it nests, but the object is there without a collection for what the component names.
 pub fn nesting_of_operations_is_needed()
     ensures collection { OperationsMustNest }
     ensures record_object { OperationsMustFindOpen }

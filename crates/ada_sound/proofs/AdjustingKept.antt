@@ -48,7 +48,7 @@ use Rattle.ada_sound.proofs.Waiting.{low_kept}
 abbrev pub StepsKeep : Known → List TypeDefinition → List BodyForm → Type 0
 StepsKeep known types bodies =
     (t : State) → calls_or_copies t.control ≡ false → inside.crosses t.mode t.control ≡ false → typed.TypedIn known.program t
-    → AllocatesBare known.program known.implicit known.touches t.control → AllPairs CollectTwoTypes (items_of t.masters)
+    → AllocatesBare known.program known.touches t.control → AllPairs CollectTwoTypes (items_of t.masters)
     → (may : ℕ → Bool) → FinalizesIn may known.program.types (outers known) types bodies t.mode t.control t → NoneIsUnder may (outers known).under t.heap
     → (t.mode ≡ Running → FreesAmong may t.control)
     → ((left : Mode) (k : Control) → t.mode ≡ Running → t.control ≡ Leaves left ∷ k

@@ -2,6 +2,7 @@
 -- too, or stays as it is, and keeps what is known of it.
 
 use Rattle.std.proofs.Common.{◌≡◌, ℕ, Bool, true, false, List, [], ◌∷◌, ◌++◌, refl, sym, ◌∙◌, inl, inr, subst}
+use Rattle.std.proofs.lemmas.Bool.{eq-eqb}
 use Rattle.std.specs.Prelude.{Option, Some}
 use Rattle.std.specs.List.{AllPairs}
 use Rattle.ada_deeds.specs.Implicit.{implicit_of}
@@ -33,6 +34,7 @@ use Rattle.ada_tracked.specs.Law as matching
 use Rattle.ada_tracked.specs.Looking.{LooksElsewhere}
 use Rattle.ada_tracked.specs.Seen.{IsWatched, Seen}
 use Rattle.ada_tracked.specs.Staying.{AllStaySimple, StaysSimple}
+use Rattle.ada_typed.proofs.Objects.{record_no_access}
 use Rattle.ada_typed.proofs.Control as typed
 use Rattle.ada_typed.proofs.Kept.{Each}
 use Rattle.ada_sound.specs.Agreement.{running_procedure}
@@ -67,7 +69,7 @@ use Rattle.ada_sound.proofs.Standing.{AllStand, FinalizesBy, FinalizesIn, FreesA
 use Rattle.ada_sound.proofs.Steps as inside
 use Rattle.ada_sound.proofs.Stored.{AllOut, IsUnder, none_departed}
 use Rattle.ada_sound.proofs.Trackers.{tracks_apart}
-use Rattle.ada_sound.proofs.TracksWell.{frees_bare_spared, tracked_bare}
+use Rattle.ada_sound.proofs.TracksWell.{tracked_bare}
 
 -- The body runs for the same copy in two states.
 pub record SameCopy (program : Program) (s after : State) (f : Adjusting program s) (g : Adjusting program after) : Type 0 where
@@ -224,10 +226,10 @@ module _
   none_is_under o x (inr departed) found = none_departed f.t.heap out_there o x departed
 
   -- No allocator copies a record with controlled parts, or makes an object with some from items.
-  bare_there : AllocatesBare known.program known.implicit known.touches f.t.control
+  bare_there : AllocatesBare known.program known.touches f.t.control
   bare_there =
       tracked_bare program well (tracks_apart (program_form program) f.tracking) known.program types_are f.t
-      (frees_bare_spared p known.program.types f.t.control freely) (λ stand. f.apart)
+      (λ x t is. record_no_access known.program.types known.program.variables x t.0 judged.fits.variables_fit (rw is (eq-eqb t.0 t.0 refl))) (λ stand. f.apart)
 
   places_on : AllSamePlaces s (next tds bodies s)
   places_on = places_stay tds bodies f.w.tracks.first s (within f.w.tracks.first s.control f.simple inner)

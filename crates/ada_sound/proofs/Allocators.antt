@@ -234,7 +234,7 @@ module _ (known : Known) (k : Control) (a : Activation Value) (rest : List (Acti
       holds = runs.0;
       stored = stored;
       roomed = w.roomed;
-      fit = weaker_fit runs.0 runs.1 (put_owner x (created s.heap words) Whole (plain_place known.program.types (outers known).referenced known.program.variables a.places x (created s.heap words) other tt) (rw is (made none).1) (made none).0);
+      fit = weaker_fit runs.0 runs.1 (put_owner x (created s.heap words) Whole tt (plain_place known.program.types (outers known).referenced known.program.variables a.places x (created s.heap words) other tt) (rw is (made none).1) (made none).0);
       rest = runs.2;
     }
 

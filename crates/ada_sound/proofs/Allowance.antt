@@ -7,27 +7,35 @@ use Rattle.std.specs.List.{list_all, slice_index_or}
 use Rattle.std.proofs.lemmas.Bool.{and_from, and_parts, or_cases, or_left, or_right}
 use Rattle.ada_effects.specs.Effects.{record_path_raises}
 use Rattle.ada_program.specs.Form.{RecordPathForm, ItemForm, RightForm, nothing, value_of, allocates, allocates_default, computes, DeclarationForm, creates_pool, collects, declares, declares_record, StmtForm, skips, assigns, assigns_record, frees, gets, writes, writes_text, chooses, repeats, counts, exits, calls, returns, raises, encloses, StmtsForm, no_stmts, a_stmt, BranchesForm, otherwise, a_branch, HandlersForm, no_handlers, a_handler}
-use Rattle.ada_program.specs.Nested.{collected, record_nests}
 use Rattle.ada_program.specs.ProgramForm.{TypeForm, BodyForm, ProgramForm}
 use Rattle.ada_program.specs.WellFormed.{finalization_of, object_named}
 use Rattle.ada_quiet.specs.Apart.{is_bare_item}
 use Rattle.ada_quiet.specs.Bare.{has_bare_objects}
-use Rattle.ada_quiet.specs.Calm.{inert_types, is_known_calm}
+use Rattle.ada_quiet.specs.Calm.{is_known_calm, unadjusted_types, unfinalized_types}
 use Rattle.ada_quiet.specs.Idle.{holds_parts}
-use Rattle.ada_quiet.specs.Frugal.{allocates_frugally, is_bare_initial, is_inert_named as frugal_named, is_inert_initial, is_frugal_declaration, are_frugal_declarations, frugal_procedures, is_frugal_stmt, are_frugal, are_frugal_branches, are_frugal_handlers, is_frugal_body, Thrift, assigns_at_hand, thrift_of}
+use Rattle.ada_quiet.specs.Frugal.{allocates_frugally, is_bare_initial, is_unadjusted_named as frugal_named, is_unadjusted_initial, is_frugal_declaration, are_frugal_declarations, frugal_procedures, is_frugal_stmt, are_frugal, are_frugal_branches, are_frugal_handlers, is_frugal_body, Thrift, assigns_at_hand, thrift_of}
 
 -- What such bodies go by: as frugal ones do, whether they may free objects with controlled parts, and whether they may allocate some and declare record
 -- objects.
 pub record Allowance : Type 0 where
   pub types : List TypeForm
-  pub inert : List Bool
+  pub unadjusted : List Bool
+  pub unfinalized : List Bool
   pub treats_parts : Bool
   pub objects : Bool
   pub procedures : List Bool
 
--- It is known of a record type that it is inert (7.6).
+-- It is known of a record type that nothing is called as a copy is adjusted,
+abbrev pub is_unadjusted : Allowance → (record_type : ℕ) → Bool
+is_unadjusted allowance t = is_known_calm allowance.unadjusted (finalization_of allowance.types t)
+
+-- or as a value ends,
+abbrev pub is_unfinalized : Allowance → (record_type : ℕ) → Bool
+is_unfinalized allowance t = is_known_calm allowance.unfinalized (finalization_of allowance.types t)
+
+-- or that it is inert: neither is (7.6).
 abbrev pub is_inert : Allowance → (record_type : ℕ) → Bool
-is_inert allowance t = is_known_calm allowance.inert (finalization_of allowance.types t)
+is_inert allowance t = is_unfinalized allowance t && is_unadjusted allowance t
 
 -- The body of an operation itself may assign to a record of such a type as a whole (5.2).
 abbrev pub may_assign : Allowance → (own : Bool) → (record_type : ℕ) → Bool
@@ -50,15 +58,16 @@ allocates_thriftily allowance (allocates_default access) = may_create allowance 
 allocates_thriftily allowance (computes e) = true
 
 -- If there is a record type, it is known of it.
-abbrev pub is_inert_named : Allowance → (record_type : Option ℕ) → Bool
-is_inert_named allowance None = false
-is_inert_named allowance (Some t) = is_inert allowance t
+abbrev pub is_unadjusted_named : Allowance → (record_type : Option ℕ) → Bool
+is_unadjusted_named allowance None = false
+is_unadjusted_named allowance (Some t) = is_unadjusted allowance t
 
 abbrev pub fills_parts : Allowance → (object_type : ℕ) → Bool
 fills_parts allowance t =
-    not (holds_parts allowance.types t) || (allowance.treats_parts && is_inert_named allowance (object_named allowance.types (Some t)))
+    not (holds_parts allowance.types t) || (allowance.treats_parts && is_unadjusted_named allowance (object_named allowance.types (Some t)))
 
--- Or declare a record object with an initial value (3.3.1): one without controlled parts, where it may declare some, or an inert one, where it may treat parts.
+-- Or declare a record object with an initial value (3.3.1): one without controlled parts, where it may declare some, or one for which no Adjust is
+-- called, where it may treat parts.
 abbrev pub may_fill : Allowance → (object_type : ℕ) → Bool
 may_fill allowance t = allowance.objects && fills_parts allowance t
 
@@ -118,7 +127,14 @@ is_thrifty_body allowance own b =
 
 -- Those of a program, which may free and create such objects.
 abbrev pub allowance_of : ProgramForm → Allowance
-allowance_of p = record { types = p.types; inert = inert_types p.types; treats_parts = true; objects = true; procedures = frugal_procedures p }
+allowance_of p = record {
+  types = p.types;
+  unadjusted = unadjusted_types p.types;
+  unfinalized = unfinalized_types p.types;
+  treats_parts = true;
+  objects = true;
+  procedures = frugal_procedures p;
+}
 
 -- What is frugal is so.
 module _ (p : ProgramForm) (own : Bool) where
@@ -133,17 +149,17 @@ module _ (p : ProgramForm) (own : Bool) where
   right_thrifty (allocates_default access) is = refl
   right_thrifty (computes e) is = refl
 
-  named_thrifty : (o : Option ℕ) → frugal_named judged o ≡ true → is_inert_named (allowance_of p) o ≡ true
+  named_thrifty : (o : Option ℕ) → frugal_named judged o ≡ true → is_unadjusted_named (allowance_of p) o ≡ true
   named_thrifty None is = is
   named_thrifty (Some t) is = is
 
-  initial_thrifty : (t : ℕ) (items : List ItemForm) → (is_bare_initial p.types t items || is_inert_initial judged t) ≡ true → may_fill (allowance_of p) t ≡ true
+  initial_thrifty : (t : ℕ) (items : List ItemForm) → (is_bare_initial p.types t items || is_unadjusted_initial judged t) ≡ true → may_fill (allowance_of p) t ≡ true
   initial_thrifty t items is =
       let bare = not (holds_parts p.types t) in
-      let inert = is_inert_named (allowance_of p) (object_named p.types (Some t)) in
-      elim (or_cases (is_bare_initial p.types t items) (is_inert_initial judged t) is) [
-        | inl bare_so ↦ or_left bare inert (and_parts bare (list_all (is_bare_item p.types) items) bare_so).0
-        | inr inert_so ↦ or_right bare inert (named_thrifty (object_named p.types (Some t)) inert_so)
+      let copied = is_unadjusted_named (allowance_of p) (object_named p.types (Some t)) in
+      elim (or_cases (is_bare_initial p.types t items) (is_unadjusted_initial judged t) is) [
+        | inl bare_so ↦ or_left bare copied (and_parts bare (list_all (is_bare_item p.types) items) bare_so).0
+        | inr copied_so ↦ or_right bare copied (named_thrifty (object_named p.types (Some t)) copied_so)
       ]
 
   declaration_thrifty : (d : DeclarationForm) → is_frugal_declaration judged d ≡ true → is_thrifty_declaration (allowance_of p) d ≡ true
@@ -151,9 +167,7 @@ module _ (p : ProgramForm) (own : Bool) where
   declaration_thrifty (collects access) is = is
   declaration_thrifty (declares x right) is = right_thrifty right is
   declaration_thrifty (declares_record x t None) is = refl
-  declaration_thrifty (declares_record x t (Some items)) is =
-      let filled = is_bare_initial p.types t items || is_inert_initial judged t in
-      initial_thrifty t items (and_parts (record_nests p.types (collected p.declarations) t) filled is).1
+  declaration_thrifty (declares_record x t (Some items)) is = initial_thrifty t items is
 
   declarations_thrifty : (ds : List DeclarationForm) → are_frugal_declarations judged ds ≡ true → are_thrifty_declarations (allowance_of p) ds ≡ true
   declarations_thrifty [] is = refl
@@ -283,4 +297,4 @@ module _ (allowance : Allowance) where
 
 -- What a body goes by that calls nothing, declares variables alone, and neither allocates nor frees an object with controlled parts.
 abbrev pub simple_allowance : List TypeForm → Allowance
-simple_allowance types = record { types = types; inert = []; treats_parts = false; objects = false; procedures = [] }
+simple_allowance types = record { types = types; unadjusted = []; unfinalized = []; treats_parts = false; objects = false; procedures = [] }

@@ -213,7 +213,10 @@ module _ (program : Program) (number : ℕ) (b : BodyForm) (given : List ActualF
       said_by : (i : ℕ) → Given i → IsSaid (place_at values i) (hold_at (first_holds b.formals b.variables) i) (place_at begins i)
       said_by i (inl none) = let e = none.1 in rw e tt
       said_by i (inr (inl none)) = let e = none.1 in rw e tt
-      said_by i (inr (inr h)) = rw (h.0) (stands_at caller.program.types caller.program.variables frees s.heap a.places w.holds (drop (length values) (blanks named b.variables)) given values order i h.1.x h.1.is)
+      said_by i (inr (inr h)) = rw (h.0) (
+        stands_at caller.program.types caller.program.variables frees s.heap a.places w.holds (drop (length values) (blanks named b.variables)) given values order i h.1.x h.1.is,
+        rw (h.1.value) (whole_plain (place_at a.places h.1.x)),
+      )
 
       -- A record parameter refers to an object that the call refers to, and other formal parameters refer to no record.
       object_by : (i : ℕ) → hold_at (first_holds b.formals b.variables) i ≢ hold.Lost → Given i → IsPlace caller.program.types (referenced ++ (outers caller).referenced) (variable_kind b.variables i) (place_at begins i)

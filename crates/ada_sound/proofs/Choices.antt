@@ -37,8 +37,7 @@ use Rattle.ada_meaning.specs.Named.{State, Next, next}
 use Rattle.ada_meaning.specs.Run.{Event, Choice, settled, grants, takes, Leads, Run, here, there, Halts, first_state}
 use Rattle.ada_quiet.specs.Idle.{makes_parts, copies_parts}
 use Rattle.ada_quiet.specs.InUse.{operations_are_in_use}
-use Rattle.ada_quiet.specs.Releases.{text_frees_inside}
-use Rattle.ada_sound.specs.Always.{IsChecked, LetsNothingOut, reaches_holder, spare_own_types, SparesAdjusted, SparesHolders, SparesNewer, SparesOwn, Breaks, IsIllFormed, IsIllNested, FreesOthers, NotInUse, UsesNewer, FollowsAdjusted, LetsSomeOut, UsesOwn, InSomeRun, is_seen, IsFineAtEnds, HaltsAfter, HaltsSomewhere}
+use Rattle.ada_sound.specs.Always.{IsChecked, LetsNothingOut, spare_own_types, SparesAdjusted, SparesNewer, SparesOwn, Breaks, IsIllFormed, IsIllNested, FreesOthers, NotInUse, UsesNewer, FollowsAdjusted, LetsSomeOut, UsesOwn, InSomeRun, is_seen, IsFineAtEnds, HaltsAfter, HaltsSomewhere}
 
 -- Events, and the state that they lead to.
 abbrev pub Came : Type 0
@@ -165,21 +164,10 @@ fits p = list_all (components_lie p.types) p.types && (have_operations p.types (
 abbrev ReachesOlder : ProgramForm → Type 0
 ReachesOlder p = (t u : ℕ) → is_access p.types t ≡ true → (implicit_of p).end_reaches t u ≡ true → is_created_before (collections_of p) u t ≡ true
 
--- There are no such spots.
-abbrev is_none : List Spot → Bool
-is_none [] = true
-is_none (spot ∷ spots) = false
-
-none_there : (spots : List Spot) → is_none spots ≡ true → spots ≡ []
-none_there [] none = refl
-none_there (spot ∷ spots) none = absurd (cc none)
-
--- Whether what ends objects spares their own access types, and where a component of a record is freed those in whose objects such a component may lie; and
--- whether it spares those whose collections are created later, and what adjusts objects follows no values of their own access types.
+-- Whether what ends objects spares their own access types; and whether it spares those whose collections are created later, and what adjusts objects follows no
+-- values of their own access types.
 abbrev pub spares_types : ProgramForm → Bool
-spares_types p =
-    spare_own_types (implicit_of p) 0 p.types
-    && (is_none (text_frees_inside (reaches_holder (implicit_of p) p.types) p) && (reach_older p && adjust_aside p))
+spares_types p = spare_own_types (implicit_of p) 0 p.types && (reach_older p && adjust_aside p)
 
 -- Whether no exception comes out where a record is finalized, if a Finalize may be called, nor where one is adjusted, if an Adjust may be.
 abbrev pub lets_none_out : ProgramForm → Bool
@@ -250,10 +238,7 @@ spares_is p e = (and_parts _ _ (and_parts _ _ e).1).0
 
 -- The last two parts of what is spared.
 later_is : (p : ProgramForm) → spares_types p ≡ true → (reach_older p && adjust_aside p) ≡ true
-later_is p e =
-    let none = is_none (text_frees_inside (reaches_holder (implicit_of p) p.types) p) in
-    let later = reach_older p && adjust_aside p in
-    (and_parts none later (and_parts (spare_own_types (implicit_of p) 0 p.types) (none && later) e).1).1
+later_is p e = (and_parts (spare_own_types (implicit_of p) 0 p.types) (reach_older p && adjust_aside p) e).1
 
 older_is : (p : ProgramForm) → spares_types p ≡ true → reach_older p ≡ true
 older_is p e = (and_parts (reach_older p) (adjust_aside p) (later_is p e)).0
@@ -314,15 +299,6 @@ module _ (program : Program) (bodies : List BodyForm) (fs : StmtsForm) (hs : Han
   spares_in : spares_types (form_with program bodies fs hs) ≡ true → SparesOwn program
   spares_in e = spares_with true (and_parts _ _ e).0
 
-  -- And whether it spares those in which components may lie that are freed.
-  holders_in : is_none (text_frees_inside (reaches_holder (implicit_of (form_with program bodies fs hs)) (form_with program bodies fs hs).types) (form_with program bodies fs hs)) ≡ true
-      → SparesHolders program
-  holders_in none may made =
-      subst (λ (p : ProgramForm). text_frees_inside (reaches_holder (implicit_of p) p.types) p ≡ []) (sym form_is) (none_there _ none)
-
-  spares_holders_in : spares_types (form_with program bodies fs hs) ≡ true → SparesHolders program
-  spares_holders_in e = holders_in (and_parts _ _ (and_parts _ _ e).1).0
-
   -- And whether it spares those whose collections are created later than that of its own.
   newer_in : reach_older (form_with program bodies fs hs) ≡ true → SparesNewer program
   newer_in e = subst ReachesOlder (sym form_is) (older_by (form_with program bodies fs hs) e)
@@ -377,7 +353,6 @@ module _ (program : Program) (bodies : List BodyForm) (fs : StmtsForm) (hs : Han
         spares_newer = spares_newer_in (spares_is (form_with program bodies fs hs) fine);
         spares_adjusted = spares_adjusted_in (spares_is (form_with program bodies fs hs) fine);
         lets_nothing_out = lets_none_in (lets_none_is (form_with program bodies fs hs) fine);
-        spares_holders = spares_holders_in (spares_is (form_with program bodies fs hs) fine);
         obeys = (normal, raising, flow_in (goes normal raising) e);
       }
 
@@ -394,7 +369,6 @@ module _ (program : Program) (bodies : List BodyForm) (fs : StmtsForm) (hs : Han
         spares_newer = spares_newer_in (spares_is (form_with program bodies fs hs) fine);
         spares_adjusted = spares_adjusted_in (spares_is (form_with program bodies fs hs) fine);
         lets_nothing_out = lets_none_in (lets_none_is (form_with program bodies fs hs) fine);
-        spares_holders = spares_holders_in (spares_is (form_with program bodies fs hs) fine);
         spot = spot;
         faults_there = flow_in (faults spot rule) e;
       }
@@ -414,7 +388,6 @@ module _ (program : Program) (bodies : List BodyForm) (fs : StmtsForm) (hs : Han
         spares_newer = spares_newer_in spares;
         spares_adjusted = spares_adjusted_in spares;
         lets_nothing_out = lets_none_in none;
-        spares_holders = spares_holders_in spares;
         obeys = (normal, raising, flow_in (goes normal raising) e);
       }
 
@@ -422,11 +395,10 @@ module _ (program : Program) (bodies : List BodyForm) (fs : StmtsForm) (hs : Han
       → is_created_before (collections_of (form_with program bodies fs hs)) u t ≡ false
       → (normal raising : Option Holds) → fits (form_with program bodies fs hs) ≡ true → operations_are_in_use (form_with program bodies fs hs) ≡ true
       → spare_own_types (implicit_of (form_with program bodies fs hs)) 0 (form_with program bodies fs hs).types ≡ true
-      → is_none (text_frees_inside (reaches_holder (implicit_of (form_with program bodies fs hs)) (form_with program bodies fs hs).types) (form_with program bodies fs hs)) ≡ true
       → adjust_aside (form_with program bodies fs hs) ≡ true
       → lets_none_out (form_with program bodies fs hs) ≡ true → is_kept (form_with program bodies fs hs) ≡ true
       → flow_with program bodies fs hs ≡ goes normal raising → UsesNewer program
-  uses_newer_in t u access reached late normal raising formed used spares none_inside aside out kept e =
+  uses_newer_in t u access reached late normal raising formed used spares aside out kept e =
       let both = and_parts _ _ kept in
       record {
         well_formed = subst IsWellFormed (sym form_is) (fits_is (form_with program bodies fs hs) formed);
@@ -437,7 +409,6 @@ module _ (program : Program) (bodies : List BodyForm) (fs : StmtsForm) (hs : Han
         uses_newer = reaches_newer_in t u access reached late;
         spares_adjusted = aside_in aside;
         lets_nothing_out = lets_none_in out;
-        spares_holders = holders_in none_inside;
         obeys = (normal, raising, flow_in (goes normal raising) e);
       }
 
@@ -445,11 +416,10 @@ module _ (program : Program) (bodies : List BodyForm) (fs : StmtsForm) (hs : Han
       → does_by (form_with program bodies fs hs) (Follows (record { 0 = access })) (callee.Parts Adjust whole) ≡ true
       → (normal raising : Option Holds) → fits (form_with program bodies fs hs) ≡ true → operations_are_in_use (form_with program bodies fs hs) ≡ true
       → spare_own_types (implicit_of (form_with program bodies fs hs)) 0 (form_with program bodies fs hs).types ≡ true
-      → is_none (text_frees_inside (reaches_holder (implicit_of (form_with program bodies fs hs)) (form_with program bodies fs hs).types) (form_with program bodies fs hs)) ≡ true
       → reach_older (form_with program bodies fs hs) ≡ true
       → lets_none_out (form_with program bodies fs hs) ≡ true → is_kept (form_with program bodies fs hs) ≡ true
       → flow_with program bodies fs hs ≡ goes normal raising → FollowsAdjusted program
-  follows_adjusted_in access whole designated follows normal raising formed used spares none_inside older out kept e =
+  follows_adjusted_in access whole designated follows normal raising formed used spares older out kept e =
       let both = and_parts _ _ kept in
       record {
         well_formed = subst IsWellFormed (sym form_is) (fits_is (form_with program bodies fs hs) formed);
@@ -460,7 +430,6 @@ module _ (program : Program) (bodies : List BodyForm) (fs : StmtsForm) (hs : Han
         spares_newer = newer_in older;
         follows_adjusted = follows_aside_in access whole designated follows;
         lets_nothing_out = lets_none_in out;
-        spares_holders = holders_in none_inside;
         obeys = (normal, raising, flow_in (goes normal raising) e);
       }
 
@@ -482,7 +451,6 @@ module _ (program : Program) (bodies : List BodyForm) (fs : StmtsForm) (hs : Han
         spares_adjusted = spares_adjusted_in spares;
         lets_some_out = λ (none : LetsNothingOut (program_form program)).
             none.finalizes (subst (λ (p : ProgramForm). makes_parts p ≡ true) (sym form_is) made) e record_type raised;
-        spares_holders = spares_holders_in spares;
         obeys = (normal, raising, flow_in (goes normal raising) h);
       }
 
@@ -571,7 +539,6 @@ module _ (program : Program) (fs : StmtsForm) (hs : HandlersForm) (is : stmt_for
     spares_newer = spares_newer_in program (body_forms program) fs hs refl is has spares;
     spares_adjusted = spares_adjusted_in program (body_forms program) fs hs refl is has spares;
     lets_nothing_out = lets_none_in program (body_forms program) fs hs refl is has none;
-    spares_holders = spares_holders_in program (body_forms program) fs hs refl is has spares;
     obeys = (normal, raising, flow_in program (body_forms program) fs hs refl is has (goes normal raising) e);
   }
 
@@ -586,7 +553,6 @@ module _ (program : Program) (fs : StmtsForm) (hs : HandlersForm) (is : stmt_for
     spares_newer = spares_newer_in program (body_forms program) fs hs refl is has (spares_is whole fine);
     spares_adjusted = spares_adjusted_in program (body_forms program) fs hs refl is has (spares_is whole fine);
     lets_nothing_out = lets_none_in program (body_forms program) fs hs refl is has (lets_none_is whole fine);
-    spares_holders = spares_holders_in program (body_forms program) fs hs refl is has (spares_is whole fine);
     obeys = (normal, raising, flow_in program (body_forms program) fs hs refl is has (goes normal raising) e);
   }
 
@@ -603,7 +569,6 @@ module _ (program : Program) (fs : StmtsForm) (hs : HandlersForm) (is : stmt_for
     spares_newer = spares_newer_in program (body_forms program) fs hs refl is has (spares_is whole fine);
     spares_adjusted = spares_adjusted_in program (body_forms program) fs hs refl is has (spares_is whole fine);
     lets_nothing_out = lets_none_in program (body_forms program) fs hs refl is has (lets_none_is whole fine);
-    spares_holders = spares_holders_in program (body_forms program) fs hs refl is has (spares_is whole fine);
     obeys = (normal, raising, flow_in program (body_forms program) fs hs refl is has (goes normal raising) e);
   }
 

@@ -245,7 +245,7 @@ first_houses (Leaves mode ∷ k) heap (m ∷ ms) falls housed = newest_houses he
 first_houses k heap ms falls housed = tt
 
 -- Where collections nest, each object that is in its collection has that among the items.
-nested_housed : (types : List TypeForm) (callees : Callees) (main : List ℕ) (calling : Bool) (s : State) → nesting.Nested types callees main calling s → Housed s.heap (items_of s.masters)
+nested_housed : (types : List TypeForm) (callees : Callees) (main : Option (List ℕ)) (calling : Bool) (s : State) → nesting.Nested types callees main calling s → Housed s.heap (items_of s.masters)
 nested_housed types callees main calling s (nesting.standing ss w n) = w.housed
 nested_housed types callees main calling s (nesting.beginning b) =
     subst (λ (ms : List Master). Housed s.heap (items_of ms)) (sym b.masters) (housed_after s.heap b.m.items (items_of b.rest) b.growing.housed)

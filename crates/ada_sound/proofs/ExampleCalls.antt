@@ -15,6 +15,8 @@ use Rattle.ada_program.specs.declared.program.Choice.TheVariants as choice
 use Rattle.ada_program.specs.declared.program.Declaration.{Declaration}
 use Rattle.ada_program.specs.declared.program.Declaration.TheVariants as declaration
 use Rattle.ada_program.specs.declared.program.Handler.{Handler}
+use Rattle.ada_program.specs.declared.program.Part.{Part}
+use Rattle.ada_program.specs.declared.program.PartKind.TheVariants as part_kinds
 use Rattle.ada_program.specs.declared.program.Path.{Path}
 use Rattle.ada_program.specs.declared.program.Procedure.{Procedure}
 use Rattle.ada_program.specs.declared.program.Stmt.{Stmt}
@@ -39,7 +41,7 @@ use Rattle.ada_sound.specs.BorrowerExamples.{HasBorrower}
 use Rattle.ada_sound.specs.CallExamples.{showing_body, calling_bodies, calling_stmts, calling_handlers, calling_events, relending_stmts, relending_events, giving_bodies, giving_stmts, giving_handlers, giving_events, stopping_bodies, stopping_stmts, stopping_events, bumping_bodies, bumping_stmts, bumping_events, renewing_bodies, renewing_stmts, renewing_events, dropping_bodies, dropping_stmts, dropping_events, sharing_bodies, sharing_stmts, sharing_events, spoiling_bodies, spoiling_stmts, spoiling_events, cutting_bodies, cutting_stmts, cutting_events, claiming_bodies, claiming_stmts, claiming_events, trimming_bodies, trimming_stmts, trimming_events, replacing_bodies, replacing_stmts, replacing_events, ruining_bodies, ruining_stmts, ruining_events, draining_bodies, draining_stmts, draining_events, stripping_stmts, stripping_handlers, stripping_events}
 use Rattle.ada_sound.proofs.Choices.{accepted_in, breaks_in, fine_at_ends_in, halts_after_in}
 use Rattle.ada_sound.proofs.Example.{steps, vec, no_name, spot, types, link, exceptions, declarations, with_number, x, y, n, n_declared, value_of_x, value_of_y, x_is_seven, y_is_x}
-use Rattle.ada_sound.proofs.ExampleOwners.{record_of, an_integer as integer_component, an_access, path, part, moves, node_types, pushing}
+use Rattle.ada_sound.proofs.ExampleOwners.{an_integer as integer_component, an_access, path, part, moves, node_types, pushing}
 use Rattle.ada_sound.proofs.ExampleFrees.{inserting}
 use Rattle.ada_sound.proofs.ExampleRecords.{object, of_object, record_at, news, of_object_type}
 
@@ -608,11 +610,16 @@ trimming_all =
 abbrev trim : Procedure
 trim = with_formals (InOut ∷ []) (omega arith) (of_object_type 3 ∷ []) (omega arith) trimming_all (omega arith)
 
+-- A component that is a Node, without controlled parts, and begins with the elementary component of a number.
+abbrev node_from : (first : ℕ) → Part
+node_from first = record { name = no_name; kind = part_kinds.Record (record { 0 = 0 }); first = record { 0 = first }; part = record { 0 = 0 } }
+
 -- type Pair is record First, Second : Node; end record;
 abbrev pair_types : List TypeDefinition
 pair_types =
     node_and_object ++ definition.Object (record { 0 = 0 })
-    ∷ record_of (integer_component ∷ an_access 1 ∷ integer_component ∷ an_access 1 ∷ []) (omega arith)
+    ∷ definition.Record no_name (vec (node_from 0 ∷ node_from 2 ∷ []) (omega arith))
+    (vec (integer_component ∷ an_access 1 ∷ integer_component ∷ an_access 1 ∷ []) (omega arith)) None
     ∷ definition.Object (record { 0 = 4 })
     ∷ []
 

@@ -85,7 +85,7 @@ pub crossing_follows : FollowsAdjusted crossing
 unfolding uses_in
 crossing_follows =
     follows_adjusted_in crossing (crossing_adjust ∷ []) crossing_stmts no_handlers crossing_bodies crossing_form refl 1 (record { 0 = 0 }) refl refl _ _
-    refl refl refl refl refl refl refl refl
+    refl refl refl refl refl refl refl
 
 -- All three objects are granted.
 pub crosses : HaltsAfter crossing_events (Erroneous FollowsGone) crossing

@@ -38,7 +38,7 @@ pub clearing_uses_newer : UsesNewer clearing
 unfolding uses_in
 clearing_uses_newer =
     uses_newer_in clearing (clearing_finalize ∷ []) node_and_cell no_handlers clearing_bodies clearing_form refl 1 4 refl refl refl _ _
-    refl refl refl refl refl refl refl refl
+    refl refl refl refl refl refl refl
 
 -- Both objects are granted. The cell goes with its collection, and then the node is picked: its Finalize frees the cell once more.
 pub clears : HaltsAfter clearing_events (Erroneous EndsTwice) clearing

@@ -275,7 +275,7 @@ pub following_uses_newer : UsesNewer following
 unfolding uses_in
 following_uses_newer =
     uses_newer_in following (following_finalize ∷ []) node_and_cell no_handlers following_bodies following_form refl 1 4 refl refl refl _ _
-    refl refl refl refl refl refl refl refl
+    refl refl refl refl refl refl refl
 
 -- Both objects are granted. The cell goes with its collection, and then the node is picked: its Finalize follows its component to the cell.
 pub follows_gone : HaltsAfter following_events (Erroneous FollowsGone) following

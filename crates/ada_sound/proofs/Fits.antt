@@ -175,11 +175,18 @@ hold_in outer spared holds (variable x) = hold_at holds x
 hold_in outer spared holds (component o c) = component_hold (spared o)
 hold_in outer spared holds (elsewhere d x) = outer_hold (slice_get outer.suspended d) x
 
--- A variable that is called null is null, and one that is kept holds what was given.
+-- A value refers to no record.
+abbrev pub IsPlain : Value → Type 0
+IsPlain Null = Unit {0}
+IsPlain (Names o) = Unit {0}
+IsPlain (Scalar v) = Unit {0}
+IsPlain (Part o first) = ⊥
+
+-- A variable that is called null is null, and one that is kept holds what was given; what it is relied on to own it names, and refers to no record.
 abbrev pub IsSaid : (given : Value) → Hold → Value → Type 0
 IsSaid given hold.Null v = v ≡ Null
-IsSaid given (hold.Kept r) v = v ≡ given
-IsSaid given (hold.Own r) v = Unit {0}
+IsSaid given (hold.Kept r) v = (v ≡ given) × IsPlain v
+IsSaid given (hold.Own r) v = IsPlain v
 IsSaid given (hold.Alias r) v = Unit {0}
 IsSaid given hold.Lost v = Unit {0}
 
@@ -215,13 +222,6 @@ IsPlace types referenced kind Null = names_object kind ≡ false
 IsPlace types referenced kind (Names o) = Unit {0}
 IsPlace types referenced kind (Scalar v) = Unit {0}
 IsPlace types referenced kind (Part o place) = (names_object kind ≡ true) × (t : ℕ) × IsReferred referenced o t × IsWithin types kind t place.component
-
--- A value refers to no record.
-abbrev pub IsPlain : Value → Type 0
-IsPlain Null = Unit {0}
-IsPlain (Names o) = Unit {0}
-IsPlain (Scalar v) = Unit {0}
-IsPlain (Part o first) = ⊥
 
 -- No component refers to a record.
 abbrev pub ArePlain : List Object → Type 0
@@ -271,7 +271,9 @@ component_access types x c = access_of (kind_among (reached_components types x.c
 
 -- What is called null by less was called so before.
 said_good : (given : Value) (g h : Hold) (v : Value) → is_as_good g h ≡ true → IsSaid given g v → IsSaid given h v
-said_good given g (hold.Own r) v e is = tt
+said_good given hold.Null (hold.Own r) v e is = rw is tt
+said_good given (hold.Kept q) (hold.Own r) v e is = is.1
+said_good given (hold.Own q) (hold.Own r) v e is = is
 said_good given g (hold.Alias r) v e is = tt
 said_good given g hold.Lost v e is = tt
 said_good given hold.Null hold.Null v e is = is
@@ -424,6 +426,10 @@ null_object {outer = outer} x ne null f = let place = f.objects x ne in rw null 
 pub plain_object : {types : List TypeForm} {variables : List VariableForm} {outer : Outsiders} {spared : Id → Bool} {heap : List Object} {places : List Value} {holds : Holds} (x : ℕ) → hold_at holds x ≢ hold.Lost → is_object variables x ≡ false → Fit types variables outer spared heap places holds → IsPlain (place_at places x)
 plain_object {types = types} {variables = variables} {outer = outer} {places = places} x ne none f = place_plain types outer.referenced (variable_kind variables x) (place_at places x) none (f.objects x ne)
 
+-- What a variable gets that refers to no record, or else null, it holds.
+plain_put : (places : List Value) (x : ℕ) (v : Value) → IsPlain v → IsPlain (place_at (slice_set places x v) x)
+plain_put places x v plain = elim (read_same places x v Null) [ inl e ↦ rw e plain | inr e ↦ rw e tt ]
+
 null_put : (places : List Value) (x : ℕ) → place_at (slice_set places x Null) x ≡ Null
 null_put places x = elim (read_same places x Null Null) [ inl e ↦ e | inr e ↦ e ]
 
@@ -446,11 +452,11 @@ put_null {types = types} {variables = variables} {outer = outer} {spared = spare
   referred = f.referred;
 }
 
-pub put_owner : {types : List TypeForm} {variables : List VariableForm} {outer : Outsiders} {spared : Id → Bool} {heap : List Object} {places : List Value} {holds : Holds} (x : ℕ) (v : Value) (r : Region) → IsPlace types outer.referenced (variable_kind variables x) (place_at (slice_set places x v) x) → Hand types variables outer spared heap places holds (variable_access variables x) v → Fit types variables outer spared heap places holds → Fit types variables outer spared heap (slice_set places x v) (slice_set holds x (hold.Own r))
-put_owner {types = types} {variables = variables} {outer = outer} {spared = spared} {places = places} {holds = holds} x v r there hand f = record {
+pub put_owner : {types : List TypeForm} {variables : List VariableForm} {outer : Outsiders} {spared : Id → Bool} {heap : List Object} {places : List Value} {holds : Holds} (x : ℕ) (v : Value) (r : Region) → IsPlain v → IsPlace types outer.referenced (variable_kind variables x) (place_at (slice_set places x v) x) → Hand types variables outer spared heap places holds (variable_access variables x) v → Fit types variables outer spared heap places holds → Fit types variables outer spared heap (slice_set places x v) (slice_set holds x (hold.Own r))
+put_owner {types = types} {variables = variables} {outer = outer} {spared = spared} {places = places} {holds = holds} x v r plain there hand f = record {
   owners = put_hand x v (hold_in outer spared (slice_set holds x (hold.Own r))) (set_others outer spared holds x (hold.Own r)) f.owners
       (some_by (hold_in outer spared (slice_set holds x (hold.Own r)) (variable x)) r (set_here outer spared holds x (hold.Own r))) hand;
-  said = put_said outer.given holds places x v (hold.Own r) tt f.said;
+  said = put_said outer.given holds places x v (hold.Own r) (plain_put places x v plain) f.said;
   objects = put_objects types outer.referenced variables holds places x v (hold.Own r) (λ ne. there) f.objects;
   referred = f.referred;
 }
@@ -499,9 +505,15 @@ hand_of {outer = outer} {spared = spared} {holds = holds} y own f =
 own_kept : (h : Hold) → IsOwn h → h ≢ hold.Lost
 own_kept h own lost = rw lost at own
 
+-- Nor does it refer to a record.
+owner_plain : (given : Value) (h : Hold) (v : Value) → IsOwn h → IsSaid given h v → IsPlain v
+owner_plain given (hold.Kept r) v own said = said.1
+owner_plain given (hold.Own r) v own said = said
+owner_plain given h v own said = absurd own
+
 -- X := Y, where Y is an owner of X's access type: also where X is Y.
 pub move_fit : {types : List TypeForm} {variables : List VariableForm} {outer : Outsiders} {spared : Id → Bool} {heap : List Object} {places : List Value} {holds : Holds} (x y : ℕ) (r : Region) → is_object variables x ≡ false → is_object variables y ≡ false → IsOwn (hold_at holds y) → variable_access variables x ≡ variable_access variables y → Fit types variables outer spared heap places holds → Fit types variables outer spared heap (slice_set places x (place_at places y)) (slice_set (slice_set holds y hold.Lost) x (hold.Own r))
-move_fit {types = types} {variables = variables} {outer = outer} {places = places} {holds = holds} x y r none other own same f = put_owner x (place_at places y) r (plain_place types outer.referenced variables places x (place_at places y) none (plain_object y (own_kept (hold_at holds y) own) other f)) (rw same (hand_of y own f)) (lose y f)
+move_fit {types = types} {variables = variables} {outer = outer} {places = places} {holds = holds} x y r none other own same f = put_owner x (place_at places y) r (owner_plain (place_at outer.given y) (hold_at holds y) (place_at places y) own (f.said y)) (plain_place types outer.referenced variables places x (place_at places y) none (plain_object y (own_kept (hold_at holds y) own) other f)) (rw same (hand_of y own f)) (lose y f)
 
 -- What is relied on to name an object names one that is there.
 pub there_by : (heap : List Object) (kind : Option ℕ) (o : Id) → IsOf (access_at heap) kind o → IsThere heap o
@@ -652,7 +664,7 @@ take_variable {types = types} {variables = variables} {outer = outer} {heap = he
     let pair = take_pairs_keep (kinds_of types variables outer) heap (stacked places outer) (as_reliance outer holds) (to_reliance outer holds f.owners) x o c t at_t (sym same) refl in
     record {
       owners = from_reliance_with outer holds x r (rw (component_value heap (stacked places outer) o object c v found listed at) at pair);
-      said = put_said outer.given holds places x v (hold.Own r) tt f.said;
+      said = put_said outer.given holds places x v (hold.Own r) (plain_put places x v plain) f.said;
       objects = put_objects types outer.referenced variables holds places x v (hold.Own r) (λ ne. plain_place types outer.referenced variables places x v none plain) f.objects;
       referred = stored_referred outer heap o object c Null found f.referred;
     }

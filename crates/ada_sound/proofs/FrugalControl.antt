@@ -8,9 +8,10 @@ use Rattle.std.specs.Prelude.{◌||◌, Some}
 use Rattle.std.proofs.lemmas.Bool.{and_parts}
 use Rattle.ada_program.specs.declared.program.TypeDefinition.{TypeDefinition}
 use Rattle.ada_program.specs.Form.{ActualForm}
-use Rattle.ada_program.specs.WellFormed.{object_named}
+use Rattle.ada_program.specs.WellFormed.{finalization_of, object_named}
+use Rattle.ada_quiet.specs.Calm.{is_known_calm}
 use Rattle.ada_finalized.specs.Law.{NoOperationRunsOn, finalized_before, waits_for_operation}
-use Rattle.ada_program.specs.ProgramForm.{BodyForm}
+use Rattle.ada_program.specs.ProgramForm.{TypeForm, BodyForm}
 use Rattle.ada_meaning.specs.declared.state.Value.{Value}
 use Rattle.ada_meaning.specs.declared.state.Mode.{Mode}
 use Rattle.ada_meaning.specs.declared.state.Mode.TheVariants.{Running, Raising, Exiting, Returning}
@@ -29,7 +30,7 @@ use Rattle.ada_parts.specs.Part.{Part}
 use Rattle.ada_typed.proofs.Control.{is_operation}
 use Rattle.ada_typed.proofs.Kept.{is_treatment}
 use Rattle.ada_sound.proofs.Invariant.{Control, IsAwaited}
-use Rattle.ada_sound.proofs.Allowance.{Allowance, is_inert, may_assign, may_treat, may_create, may_fill, allocates_thriftily, are_thrifty_declarations, are_thrifty, are_thrifty_branches, are_thrifty_handlers, is_thrifty_body, thrifty_parts}
+use Rattle.ada_sound.proofs.Allowance.{Allowance, is_inert, is_unadjusted, is_unfinalized, may_assign, may_treat, may_create, may_fill, allocates_thriftily, are_thrifty_declarations, are_thrifty, are_thrifty_branches, are_thrifty_handlers, is_thrifty_body, thrifty_parts}
 use Rattle.ada_sound.proofs.InsideRecords.{TasksInside}
 
 -- An object ends in a body that frees it (13.11.2), or out of whose initialization an exception comes (7.6.1).
@@ -107,13 +108,13 @@ copies_first [] = false
 copies_first (Copies first t ∷ k) = true
 copies_first (f ∷ k) = false
 
--- All that is left to be treated is of a record of an inert type.
-abbrev pub AreInert : Allowance → List Task → Type 0
-AreInert frugal tasks = (t : ℕ) × (is_inert frugal t ≡ true) × TasksInside frugal.types t tasks
+-- All that is left to be treated is of a record of a type of which this is known.
+abbrev pub AreKnown : List TypeForm → (known : List Bool) → List Task → Type 0
+AreKnown types known tasks = (t : ℕ) × (is_known_calm known (finalization_of types t) ≡ true) × TasksInside types t tasks
 
 -- The body of an operation itself assigns to an inert record (5.2).
 abbrev pub AssignsThere : Allowance → (tasks : List Task) → Control → Type 0
-AssignsThere frugal tasks k = (frugal.treats_parts ≡ true) × (own_in k ≡ true) × AreInert frugal tasks
+AssignsThere frugal tasks k = (frugal.treats_parts ≡ true) × (own_in k ≡ true) × AreKnown frugal.types frugal.unfinalized tasks
 
 -- All that is to be done for a record of a type is of such a record, and so is what is to be done for an object that is known by one.
 abbrev pub RecordIsInside : Allowance → List TypeDefinition → Type 0
@@ -123,11 +124,12 @@ RecordIsInside frugal tds =
 
 -- What it takes to assign to one.
 pub assigned_parts : (frugal : Allowance) (own : Bool) (t : ℕ) → may_assign frugal own t ≡ true
-    → (frugal.treats_parts ≡ true) × (own ≡ true) × (is_inert frugal t ≡ true)
+    → (frugal.treats_parts ≡ true) × (own ≡ true) × (is_unfinalized frugal t ≡ true) × (is_unadjusted frugal t ≡ true)
 assigned_parts frugal own t may =
     let two = and_parts (frugal.treats_parts && own) (is_inert frugal t) may in
     let one = and_parts frugal.treats_parts own two.0 in
-    (one.0, one.1, two.1)
+    let inert = and_parts (is_unfinalized frugal t) (is_unadjusted frugal t) two.1 in
+    (one.0, one.1, inert.0, inert.1)
 
 -- A record that is assigned has no controlled parts, or that may be assigned.
 pub assigned_with : (parts bare may : Bool) → (bare ≡ true → parts ≡ false) → (bare || may) ≡ true → parts ≡ true → may ≡ true
@@ -140,12 +142,12 @@ IsAlone v Creation k = Unit {0}
 IsAlone v Copy k = NoOperationRunsOn v k
 IsAlone v (Adjustment number) k = Unit {0}
 
-abbrev pub InertThere : Allowance → Value → Birth → (tasks : List Task) → Control → Type 0
-InertThere frugal v by tasks k = (frugal.treats_parts ≡ true) × AreInert frugal tasks × IsAlone v by k
+abbrev pub UnadjustedThere : Allowance → Value → Birth → (tasks : List Task) → Control → Type 0
+UnadjustedThere frugal v by tasks k = (frugal.treats_parts ≡ true) × AreKnown frugal.types frugal.unadjusted tasks × IsAlone v by k
 
--- That is adjusted behind it (7.6), and so is an inert record object that gets its initial value,
+-- That is adjusted behind it (7.6), and so is a record object that gets its initial value, and for which no Adjust is called,
 abbrev pub AdjustsThere : Allowance → Value → Birth → (tasks : List Task) → Control → Type 0
-AdjustsThere frugal v by tasks k = IsAdjusted by × InertThere frugal v by tasks k
+AdjustsThere frugal v by tasks k = IsAdjusted by × UnadjustedThere frugal v by tasks k
 
 -- and finalized before another one is copied to it.
 abbrev pub EndsAssigned : Allowance → Cause → (tasks : List Task) → Control → Type 0

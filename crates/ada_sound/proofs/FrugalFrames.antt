@@ -41,11 +41,11 @@ use Rattle.ada_quiet.specs.Bare.{has_bare_objects}
 use Rattle.ada_finalized.specs.Law.{NoOperationRunsOn}
 use Rattle.ada_owners.proofs.Objects.{next_id}
 use Rattle.ada_scopes.specs.Scopes.{is_innermost, is_number_of}
-use Rattle.ada_sound.proofs.Allowance.{Allowance, fills_parts, is_inert, may_assign, body_more, may_treat, allocates_thriftily, is_thrifty_declaration, are_thrifty_declarations, is_thrifty_stmt, are_thrifty, are_thrifty_branches, are_thrifty_handlers, is_thrifty_body, thrifty_parts}
+use Rattle.ada_sound.proofs.Allowance.{Allowance, fills_parts, is_unadjusted, is_unfinalized, may_assign, body_more, may_treat, allocates_thriftily, is_thrifty_declaration, are_thrifty_declarations, is_thrifty_stmt, are_thrifty, are_thrifty_branches, are_thrifty_handlers, is_thrifty_body, thrifty_parts}
 use Rattle.ada_sound.proofs.Fits.{place_at}
 use Rattle.ada_sound.proofs.Invariant.{Control}
 use Rattle.ada_sound.proofs.OperationStarts.{apart}
-use Rattle.ada_sound.proofs.FrugalControl.{AreInert, AreOwnedBy, BeginsThere, FrugalBegins, FrugalLeads, FrugalLeaves, Frugally, GoesFrugally, IsLeft, IsOwnedBy, MayLeave, RecordIsInside, adjusting_frugal, assigned_parts, assigned_with, beginning_frugal, finalizing_frugal, more_leads, own_in, own_treating, storing_frugal, treating_leads, treating_leaves, waits_first, with_variable}
+use Rattle.ada_sound.proofs.FrugalControl.{AreKnown, AreOwnedBy, BeginsThere, FrugalBegins, FrugalLeads, FrugalLeaves, Frugally, GoesFrugally, IsLeft, IsOwnedBy, MayLeave, RecordIsInside, adjusting_frugal, assigned_parts, assigned_with, beginning_frugal, finalizing_frugal, more_leads, own_in, own_treating, storing_frugal, treating_leads, treating_leaves, waits_first, with_variable}
 use Rattle.ada_sound.proofs.FrugalFrees.{RecordIsBare, IsFreely, StmtIsFreely, IsNewly, LeftAlone, Unborn, past_unborn}
 use Rattle.ada_sound.proofs.Stored.{IsTaken, taken_is}
 
@@ -281,10 +281,10 @@ module _ (frugal : Allowance) (lower : List Master) (behind : Control) (among : 
       frugally = finalizing_frugal frugal behind among (named.whole target) (Assigning s.next) (record_tasks tds t WholeFirst (named.part_base target)) copied ms
           (tt, refl, (own.0, own_copied, (t, own.2, inert.0 t WholeFirst (named.part_base target))))
           (storing_frugal frugal behind among (named.whole target) (named.base target) (width_of tds t) (named.whole target) (Adjustment s.next) [] adjusted k ms
-          (tt, (own.0, (t, own.2, inert.0 t PartsFirst (named.part_base target)), tt)) q);
+          (tt, (own.0, (t, own.3, inert.0 t PartsFirst (named.part_base target)), tt)) q);
     }
       where
-        own : (frugal.treats_parts ≡ true) × (own_in k ≡ true) × (is_inert frugal t ≡ true)
+        own : (frugal.treats_parts ≡ true) × (own_in k ≡ true) × (is_unfinalized frugal t ≡ true) × (is_unadjusted frugal t ≡ true)
         own = assigned_parts frugal (own_in k) t may
 
         adjusted : List Task
@@ -584,9 +584,9 @@ module _ (frugal : Allowance) (lower : List Master) (behind : Control) (among : 
     frugally = inl (more_leads frugal (record { number = height ((m ∷ ms) ++ lower); owned = declared x }) tt behind among k m ms q.1);
   }
 
-  -- A record object is there, which got what its items were: nothing is to be done for it, or it is inert, and adjusted.
+  -- A record object is there, which got what its items were: nothing is to be done for it, or it is adjusted.
   pub record_declares_on : (ms : List Master) (x t : ℕ) (values : List Value) (all : List (Activation Value)) → (k : Control)
-      → (all_tasks tds t PartsFirst ≡ []) ⊎ ((frugal.treats_parts ≡ true) × AreInert frugal (all_tasks tds t PartsFirst))
+      → (all_tasks tds t PartsFirst ≡ []) ⊎ ((frugal.treats_parts ≡ true) × AreKnown frugal.types frugal.unadjusted (all_tasks tds t PartsFirst))
       → NoOperationRunsOn (created s.heap (words_of tds t)) k → FrugalLeads frugal behind among (DeclaresRecord x t ∷ k) ms → Goes (made named tds x t Copy values (now all k ms))
   record_declares_on [] x t values all k filled alone q = absurd q
   record_declares_on (m ∷ ms) x t values all k (inr inert) alone q = record {

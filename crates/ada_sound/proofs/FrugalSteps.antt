@@ -43,12 +43,12 @@ use Rattle.ada_typed.proofs.Bodies.{own_bodies}
 use Rattle.ada_typed.proofs.Control as typed
 use Rattle.ada_typed.proofs.Control.{OwnBody}
 use Rattle.ada_typed.proofs.Kept.{Each, crosses as crosses_by, is_treatment}
-use Rattle.ada_sound.proofs.Allowance.{Allowance, allowance_of, fills_parts, is_inert_named, are_thrifty, are_thrifty_handlers, is_thrifty_body, body_thrifty}
+use Rattle.ada_sound.proofs.Allowance.{Allowance, allowance_of, fills_parts, is_unadjusted_named, are_thrifty, are_thrifty_handlers, is_thrifty_body, body_thrifty}
 use Rattle.ada_sound.specs.Agreement.{running_procedure}
 use Rattle.ada_sound.proofs.Calm.{ends_operation}
 use Rattle.ada_sound.proofs.Invariant.{Control}
 use Rattle.ada_sound.proofs.OperationStarts.{apart}
-use Rattle.ada_sound.proofs.FrugalControl.{AreInert, EndsThere, LeavesThere, IsAdjusted, RecordIsInside, adjusting_frugal, finalizing_frugal, own_in, FrugalLeads, FrugalLeaves, MayLeave, Frugal, is_return_first, none_treated, none_left, treating_leads, treating_leaves, Frugally, GoesFrugally, BeginsThere, FrugalBegins, beginning_frugal, begins_first, leads_first, none_beginning}
+use Rattle.ada_sound.proofs.FrugalControl.{AreKnown, EndsThere, LeavesThere, IsAdjusted, RecordIsInside, adjusting_frugal, finalizing_frugal, own_in, FrugalLeads, FrugalLeaves, MayLeave, Frugal, is_return_first, none_treated, none_left, treating_leads, treating_leaves, Frugally, GoesFrugally, BeginsThere, FrugalBegins, beginning_frugal, begins_first, leads_first, none_beginning}
 use Rattle.ada_sound.proofs.InsideRecords.{object_inside, performed_inside, record_inside}
 use Rattle.ada_sound.proofs.Standing.{FreesAmong}
 use Rattle.ada_sound.proofs.Steps.{crosses}
@@ -96,19 +96,21 @@ module _ (frugal : Allowance) (lower : List Master) (behind : Control) (among : 
   abbrev twice_without : List (Activation Value) → List (Activation Value)
   twice_without all = without (without all)
 
-  -- Nothing is to be done for a record object with an initial value, or it is inert.
-  inert_tasks : (t : ℕ) (o : Option ℕ) → object_named frugal.types (Some t) ≡ o → is_inert_named frugal o ≡ true → AreInert frugal (all_tasks tds t PartsFirst)
-  inert_tasks t None named is = absurd (cc is)
-  inert_tasks t (Some r) named is = (r, is, records_inside.1 t r PartsFirst named)
+  -- Nothing is to be done for a record object with an initial value, or no Adjust is called for it.
+  copied_tasks : (t : ℕ) (o : Option ℕ) → object_named frugal.types (Some t) ≡ o → is_unadjusted_named frugal o ≡ true
+      → AreKnown frugal.types frugal.unadjusted (all_tasks tds t PartsFirst)
+  copied_tasks t None named is = absurd (cc is)
+  copied_tasks t (Some r) named is = (r, is, records_inside.1 t r PartsFirst named)
 
-  fills : (t : ℕ) → fills_parts frugal t ≡ true → (all_tasks tds t PartsFirst ≡ []) ⊎ ((frugal.treats_parts ≡ true) × AreInert frugal (all_tasks tds t PartsFirst))
+  fills : (t : ℕ) → fills_parts frugal t ≡ true
+      → (all_tasks tds t PartsFirst ≡ []) ⊎ ((frugal.treats_parts ≡ true) × AreKnown frugal.types frugal.unadjusted (all_tasks tds t PartsFirst))
   fills t is =
-      let named = is_inert_named frugal (object_named frugal.types (Some t)) in
+      let named = is_unadjusted_named frugal (object_named frugal.types (Some t)) in
       elim (or_cases (not (holds_parts frugal.types t)) (frugal.treats_parts && named) is) [
         | inl bare ↦ inl (objects_bare t PartsFirst bare)
-        | inr inert ↦
-            let both = and_parts frugal.treats_parts named inert in
-            inr (both.0, inert_tasks t (object_named frugal.types (Some t)) refl both.1)
+        | inr copied ↦
+            let both = and_parts frugal.treats_parts named copied in
+            inr (both.0, copied_tasks t (object_named frugal.types (Some t)) refl both.1)
       ]
 
   -- What is left of the body goes on.
@@ -387,11 +389,12 @@ frugal_goes program whole lower behind among s f inner none typing may frees alo
     (λ number b there told. body_thrifty p false b (frugal_called p number b told there)) (λ created. refl) behind among lower s f inner none typing may frees
     (λ treats_parts. alone) (λ created. unborn) (λ created. left)
 
--- Where what is treated is inert, no operation is called: neither Adjust nor Finalize is overridden (7.6).
+-- Where a record is adjusted of which no Adjust is overridden, none is called; and where one is finalized of which no Finalize is, none of these (7.6).
 abbrev pub CallsNothing : Allowance → List TypeDefinition → Type 0
 CallsNothing frugal tds =
-    (tasks : List Task) → AreInert frugal tasks → (of part : ℕ) → task_next tasks ≡ Perform of part
-    → (procedure_number (operations_of tds of).adjust ≡ None) × (procedure_number (operations_of tds of).finalize ≡ None)
+    (tasks : List Task) (of part : ℕ) → task_next tasks ≡ Perform of part
+    → (AreKnown frugal.types frugal.unadjusted tasks → procedure_number (operations_of tds of).adjust ≡ None)
+    × (AreKnown frugal.types frugal.unfinalized tasks → procedure_number (operations_of tds of).finalize ≡ None)
 
 adjusting_none : (tds : List TypeDefinition) (by : Birth) → IsAdjusted by → (of : ℕ) → procedure_number (operations_of tds of).adjust ≡ None → beginning by (operations_of tds of) ≡ None
 adjusting_none tds Creation adjusted of none = absurd adjusted
@@ -401,15 +404,16 @@ adjusting_none tds (Adjustment number) adjusted of none = none
 -- It stays so once a component is picked,
 abbrev pub StaysInert : Allowance → List TypeDefinition → Type 0
 StaysInert frugal tds =
-    (tasks : List Task) (direction : Direction) (i : ℕ) → AreInert frugal tasks → AreInert frugal (picked_task (shapes_of tds) direction tasks i)
+    (known : List Bool) (tasks : List Task) (direction : Direction) (i : ℕ) → AreKnown frugal.types known tasks
+    → AreKnown frugal.types known (picked_task (shapes_of tds) direction tasks i)
 
 -- once an operation has been called, or would have been,
-inert_performed : (frugal : Allowance) (tasks : List Task) → AreInert frugal tasks → AreInert frugal (performed tasks)
-inert_performed frugal tasks inert = (inert.0, inert.1, performed_inside frugal.types inert.0 tasks inert.2)
+inert_performed : (frugal : Allowance) (known : List Bool) (tasks : List Task) → AreKnown frugal.types known tasks → AreKnown frugal.types known (performed tasks)
+inert_performed frugal known tasks inert = (inert.0, inert.1, performed_inside frugal.types inert.0 tasks inert.2)
 
 -- and where nothing is left.
-no_tasks_inert : (frugal : Allowance) (tasks : List Task) → AreInert frugal tasks → AreInert frugal []
-no_tasks_inert frugal tasks inert = (inert.0, inert.1, tt)
+no_tasks_inert : (frugal : Allowance) (known : List Bool) (tasks : List Task) → AreKnown frugal.types known tasks → AreKnown frugal.types known []
+no_tasks_inert frugal known tasks inert = (inert.0, inert.1, tt)
 
 -- An object is freed or undone, or its master is left, or it begins, and no operation of it runs behind; and then this is left to do.
 abbrev pub IsTreated : (frugal : Allowance) → (back : Control) → (among : List Value) → (v : Value) → Control → List Master → Treatment → Type 0
@@ -465,11 +469,11 @@ module _ (frugal : Allowance) (lower : List Master) (back : Control) (among : Li
           by false = λ i lt. goes_on s.heap (picked_task (shapes_of tds) (direction_of (ends cause)) tasks i)
       treats_on tasks (Perform of part) = performed_on of part (performed tasks) (look s.heap v)
 
-    -- Or a record that is assigned to is, of which nothing is overridden: it stays inert, whatever is left of that.
+    -- Or a record that is assigned to is, of which nothing is overridden: so it stays, whatever is left of that.
     module _ (inert_calls : CallsNothing frugal tds) (inert_picked : StaysInert frugal tds) where
       -- It is finalized.
-      module _ (cause : Cause) (goes_on : (heap : List Object) (tasks : List Task) → AreInert frugal tasks → GoesOrBegins (left_with heap (treating v (ends cause) tasks k))) where
-        inert_ended_on : (tasks : List Task) → AreInert frugal tasks → (of part : ℕ) → (procedure_number (operations_of tds of).finalize ≡ None) → (found : Option PartState)
+      module _ (cause : Cause) (goes_on : (heap : List Object) (tasks : List Task) → AreKnown frugal.types frugal.unfinalized tasks → GoesOrBegins (left_with heap (treating v (ends cause) tasks k))) where
+        inert_ended_on : (tasks : List Task) → AreKnown frugal.types frugal.unfinalized tasks → (of part : ℕ) → (procedure_number (operations_of tds of).finalize ≡ None) → (found : Option PartState)
             → GoesTreating (finalized_next named bodies v cause of part tasks (procedure_number (operations_of tds of).finalize) found (record s { control = k }))
         inert_ended_on tasks inert of part none None = tt
         inert_ended_on tasks inert of part none (Some state) = by state.alive (procedure_number (operations_of tds of).finalize) none
@@ -479,26 +483,26 @@ module _ (frugal : Allowance) (lower : List Master) (back : Control) (among : Li
             by true (Some procedure) none' = absurd (cc none')
             by false operation none' = tt
 
-        inert_performed_on : (tasks : List Task) → AreInert frugal tasks → (of part : ℕ) → (procedure_number (operations_of tds of).finalize ≡ None) → (found : Found (Cell Value))
+        inert_performed_on : (tasks : List Task) → AreKnown frugal.types frugal.unfinalized tasks → (of part : ℕ) → (procedure_number (operations_of tds of).finalize ≡ None) → (found : Found (Cell Value))
             → GoesTreating (performed_next named tds bodies v (ends cause) of part tasks found (record s { control = k }))
         inert_performed_on tasks inert of part none on_null = tt
         inert_performed_on tasks inert of part none on_gone = tt
         inert_performed_on tasks inert of part none on_other = tt
         inert_performed_on tasks inert of part none (finds cell) = inert_ended_on tasks inert of part none (slice_get cell.parts part)
 
-        inert_treats_on : (tasks : List Task) → AreInert frugal tasks → (n : NextTask) → task_next tasks ≡ n → GoesTreating (treats_next named tds bodies v (ends cause) tasks n (record s { control = k }))
-        inert_treats_on tasks inert Done is = goes_on s.heap [] (no_tasks_inert frugal tasks inert)
+        inert_treats_on : (tasks : List Task) → AreKnown frugal.types frugal.unfinalized tasks → (n : NextTask) → task_next tasks ≡ n → GoesTreating (treats_next named tds bodies v (ends cause) tasks n (record s { control = k }))
+        inert_treats_on tasks inert Done is = goes_on s.heap [] (no_tasks_inert frugal frugal.unfinalized tasks inert)
         inert_treats_on tasks inert (Pick count) is = by (count == 0)
           where
             by : (none : Bool) → GoesTreating (if none then halts Stuck else picks count (λ i. treated_on named v (ends cause) (picked_task (shapes_of tds) (direction_of (ends cause)) tasks i) (record s { control = k })))
             by true = tt
-            by false = λ i lt. goes_on s.heap (picked_task (shapes_of tds) (direction_of (ends cause)) tasks i) (inert_picked tasks (direction_of (ends cause)) i inert)
+            by false = λ i lt. goes_on s.heap (picked_task (shapes_of tds) (direction_of (ends cause)) tasks i) (inert_picked frugal.unfinalized tasks (direction_of (ends cause)) i inert)
         inert_treats_on tasks inert (Perform of part) is =
-            inert_performed_on (performed tasks) (inert_performed frugal tasks inert) of part (inert_calls tasks inert of part is).1 (look s.heap v)
+            inert_performed_on (performed tasks) (inert_performed frugal frugal.unfinalized tasks inert) of part ((inert_calls tasks of part is).1 inert) (look s.heap v)
 
       -- It is adjusted.
-      module _ (by : Birth) (adjusted : IsAdjusted by) (f : Frugally frugal lower back among s) (goes_on : (done : List Part) (tasks : List Task) → AreInert frugal tasks → Frugal frugal back among s.mode (treating v (begins by done) tasks k) f.upper) where
-        inert_born_on : (done : List Part) (tasks : List Task) → AreInert frugal tasks → (of part : ℕ) (operation : Option ℕ) → operation ≡ None → (found : Option PartState)
+      module _ (by : Birth) (adjusted : IsAdjusted by) (f : Frugally frugal lower back among s) (goes_on : (done : List Part) (tasks : List Task) → AreKnown frugal.types frugal.unadjusted tasks → Frugal frugal back among s.mode (treating v (begins by done) tasks k) f.upper) where
+        inert_born_on : (done : List Part) (tasks : List Task) → AreKnown frugal.types frugal.unadjusted tasks → (of part : ℕ) (operation : Option ℕ) → operation ≡ None → (found : Option PartState)
             → GoesTreating (begun_next named bodies v by done of part tasks operation found (record s { control = k }))
         inert_born_on done tasks inert of part operation none None = tt
         inert_born_on done tasks inert of part None none (Some p) = inl (
@@ -511,15 +515,15 @@ module _ (frugal : Allowance) (lower : List Master) (back : Control) (among : Li
         )
         inert_born_on done tasks inert of part (Some procedure) none (Some p) = absurd (cc none)
 
-        inert_begun_on : (done : List Part) (tasks : List Task) → AreInert frugal tasks → (of part : ℕ) → beginning by (operations_of tds of) ≡ None → (found : Found (Cell Value))
+        inert_begun_on : (done : List Part) (tasks : List Task) → AreKnown frugal.types frugal.unadjusted tasks → (of part : ℕ) → beginning by (operations_of tds of) ≡ None → (found : Found (Cell Value))
             → GoesTreating (performed_next named tds bodies v (begins by done) of part tasks found (record s { control = k }))
         inert_begun_on done tasks inert of part none on_null = tt
         inert_begun_on done tasks inert of part none on_gone = tt
         inert_begun_on done tasks inert of part none on_other = tt
         inert_begun_on done tasks inert of part none (finds cell) = inert_born_on done tasks inert of part (beginning by (operations_of tds of)) none (slice_get cell.parts part)
 
-        inert_begins_on : (done : List Part) (tasks : List Task) → AreInert frugal tasks → (n : NextTask) → task_next tasks ≡ n → GoesTreating (treats_next named tds bodies v (begins by done) tasks n (record s { control = k }))
-        inert_begins_on done tasks inert Done is = inl (record { upper = f.upper; masters = f.masters; frugally = goes_on done [] (no_tasks_inert frugal tasks inert) }, refl)
+        inert_begins_on : (done : List Part) (tasks : List Task) → AreKnown frugal.types frugal.unadjusted tasks → (n : NextTask) → task_next tasks ≡ n → GoesTreating (treats_next named tds bodies v (begins by done) tasks n (record s { control = k }))
+        inert_begins_on done tasks inert Done is = inl (record { upper = f.upper; masters = f.masters; frugally = goes_on done [] (no_tasks_inert frugal frugal.unadjusted tasks inert) }, refl)
         inert_begins_on done tasks inert (Pick count) is = by_count (count == 0)
           where
             by_count : (none : Bool) → GoesTreating (if none then halts Stuck else picks count (λ i. treated_on named v (begins by done) (picked_task (shapes_of tds) (direction_of (begins by done)) tasks i) (record s { control = k })))
@@ -528,12 +532,12 @@ module _ (frugal : Allowance) (lower : List Master) (back : Control) (among : Li
               record {
                 upper = f.upper;
                 masters = f.masters;
-                frugally = goes_on done (picked_task (shapes_of tds) (direction_of (begins by done)) tasks i) (inert_picked tasks (direction_of (begins by done)) i inert);
+                frugally = goes_on done (picked_task (shapes_of tds) (direction_of (begins by done)) tasks i) (inert_picked frugal.unadjusted tasks (direction_of (begins by done)) i inert);
               },
               refl,
             )
         inert_begins_on done tasks inert (Perform of part) is =
-            inert_begun_on done (performed tasks) (inert_performed frugal tasks inert) of part (adjusting_none tds by adjusted of (inert_calls tasks inert of part is).0) (look s.heap v)
+            inert_begun_on done (performed tasks) (inert_performed frugal frugal.unadjusted tasks inert) of part (adjusting_none tds by adjusted of ((inert_calls tasks of part is).0 inert)) (look s.heap v)
 
     -- It is new.
     module _ (by : Birth) (f : Frugally frugal lower back among s) (leads : FrugalLeads frugal back among k f.upper) (runs : s.mode ≡ Running) (fresh : BeginsThere frugal v by k) (calls : Calls) where
@@ -616,12 +620,12 @@ treats_frugally frugal lower back among tds bodies s inert_calls inert_picked f 
     by_frugal (begins how done) (inr (inr (may, (inr adjusting, q)))) =
         inert_begins_on frugal lower back among tds bodies s (IsTreated frugal back among v k f.upper (begins how done)) v k inert_calls inert_picked how adjusting.0 f so done tasks adjusting.1.1 (task_next tasks) refl
       where
-        so : (born : List Part) (left : List Task) → AreInert frugal left → Frugal frugal back among s.mode (treating v (begins how born) left k) f.upper
+        so : (born : List Part) (left : List Task) → AreKnown frugal.types frugal.unadjusted left → Frugal frugal back among s.mode (treating v (begins how born) left k) f.upper
         so born left inert = rw runs (adjusting_frugal frugal back among v how born left k f.upper (adjusting.0, (adjusting.1.0, inert, adjusting.1.2)) q)
     by_frugal (ends cause) (inr (inr (may, (ending, q)))) =
         inert_treats_on frugal lower back among tds bodies s (IsTreated frugal back among v k f.upper (ends cause)) v k inert_calls inert_picked cause so tasks ending.2.2 (task_next tasks) refl
       where
-        so : (heap : List Object) (left : List Task) → AreInert frugal left → GoesOrBegins frugal lower back among tds bodies s (IsTreated frugal back among v k f.upper (ends cause)) (record s { heap = heap; control = treating v (ends cause) left k })
+        so : (heap : List Object) (left : List Task) → AreKnown frugal.types frugal.unfinalized left → GoesOrBegins frugal lower back among tds bodies s (IsTreated frugal back among v k f.upper (ends cause)) (record s { heap = heap; control = treating v (ends cause) left k })
         so heap left inert = inl (
           record {
             upper = f.upper;

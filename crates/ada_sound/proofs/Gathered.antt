@@ -17,15 +17,13 @@ use Rattle.ada_program.specs.WellFormed.{named_in, components_reached, finalizat
 use Rattle.ada_meaning.specs.Frame.{Evaluates}
 use Rattle.ada_typed.proofs.Parts.{shown_number}
 use Rattle.ada_quiet.specs.Apart.{is_bare_item}
-use Rattle.ada_effects.specs.Effects.{Implicit}
-use Rattle.ada_sound.proofs.FreesInside.{FreesSpared}
 use Rattle.ada_sound.proofs.CopiedOwners.{CopiesWell, SeesToAll}
 use Rattle.ada_sound.proofs.OnlyParts.{IsControlled}
 use Rattle.ada_sound.proofs.SeenOwners.{plain_seen}
 use Rattle.ada_flow.specs.Flow.{Holds, is_owning, is_owning_record, owns_among, leaves_owners, gathers_owners, gathers_named, gathers_at_first, copies_to, shares_it, reaches_it, named_by_item, uses_in_item, uses_in_items}
 use Rattle.ada_sound.specs.Untracked.{AdjustsNoOwners}
 use Rattle.ada_sound.proofs.Untracked.{owns_nothing}
-use Rattle.ada_sound.proofs.Invariant.{AdjustsFirst, Control, IsPlainFirst, NoneBroken, OwnsNothing, OwnNothing, owns_at_first}
+use Rattle.ada_sound.proofs.Invariant.{AdjustsFirst, AreObjects, Control, IsPlainFirst, NoneBroken, OwnsNothing, OwnNothing, owns_at_first}
 use Rattle.ada_sound.proofs.Followings.{first_kept, kept_apart}
 use Rattle.ada_sound.proofs.Copied.{IsCopy, copied_plain}
 
@@ -37,11 +35,11 @@ BareItems types items = (spot : Spot) (target : Option PathForm) (holds : Holds)
 abbrev pub AllocatesApart : (touches : ℕ → Bool) → Control → Type 0
 AllocatesApart touches k = (access : ℕ) (items : List ItemForm) (behind : Control) → k ≡ Evaluates (allocates access items) ∷ behind → touches access ≡ false
 
--- What is freed next by a component of a record spares the objects in which such components lie, where an operation may be called that touches storage; records that
--- are items of an allocator that is evaluated next own nothing, and no such operation is called for its object.
-abbrev pub AllocatesBare : ProgramForm → Implicit → (touches : ℕ → Bool) → Control → Type 0
-AllocatesBare p implicit touches k =
-    FreesSpared implicit p.types touches k
+-- Record objects are of no access types; and records that are items of an allocator that is evaluated next own nothing, and no operation is called for its object
+-- that touches storage.
+abbrev pub AllocatesBare : ProgramForm → (touches : ℕ → Bool) → Control → Type 0
+AllocatesBare p touches k =
+    AreObjects p.types p.variables
     × ((access : ℕ) (items : List ItemForm) (behind : Control) → k ≡ Evaluates (allocates access items) ∷ behind
     → BareItems p.types items × (touches access ≡ false))
 
@@ -185,10 +183,10 @@ items_bare types none spot target holds earlier (i ∷ items) kept =
     (item_bare types none spot target holds earlier i two.0, items_bare types none spot target holds (named_by_item i ++ earlier) items two.1)
 
 -- Where no Adjust is of a type that declares components of access types, records that are items own nothing.
-pub allocates_none : (implicit : Implicit) {touches : ℕ → Bool} (p : ProgramForm) (k : Control) → AdjustsNoOwners p.types
-    → FreesSpared implicit p.types touches k → AllocatesApart touches k → AllocatesBare p implicit touches k
-allocates_none implicit p k none spared apart =
-    (spared, λ access items behind is. ((λ spot target holds kept. items_bare p.types none spot target holds [] items kept), apart access items behind is))
+pub allocates_none : {touches : ℕ → Bool} (p : ProgramForm) (k : Control) → AdjustsNoOwners p.types
+    → AreObjects p.types p.variables → AllocatesApart touches k → AllocatesBare p touches k
+allocates_none p k none objects apart =
+    (objects, λ access items behind is. ((λ spot target holds kept. items_bare p.types none spot target holds [] items kept), apart access items behind is))
 
 -- A record that has no controlled parts owns nothing, where it may be copied.
 record_bare : (types : List TypeForm) → CopiesWell types → (t : ℕ) → finalization_of types t ≡ None → leaves_owners types t ≡ false → is_owning_record types t ≡ false
@@ -217,6 +215,6 @@ all_bare types copies spot target holds earlier (i ∷ items) bare kept =
     (one_bare types copies spot target holds earlier i each.0 two.0, all_bare types copies spot target holds (named_by_item i ++ earlier) items each.1 two.1)
 
 -- So do those of an allocator that is evaluated next, where it copies no such record.
-pub allocates_bare : (implicit : Implicit) {touches : ℕ → Bool} (p : ProgramForm) → CopiesWell p.types → (k : Control) → ((access : ℕ) (items : List ItemForm) (behind : Control) → k ≡ Evaluates (allocates access items) ∷ behind → list_all (is_bare_item p.types) items ≡ true) → FreesSpared implicit p.types touches k → AllocatesApart touches k → AllocatesBare p implicit touches k
-allocates_bare implicit p copies k bare spared apart =
-    (spared, λ access items behind is. ((λ spot target holds kept. all_bare p.types copies spot target holds [] items (bare access items behind is) kept), apart access items behind is))
+pub allocates_bare : {touches : ℕ → Bool} (p : ProgramForm) → CopiesWell p.types → (k : Control) → ((access : ℕ) (items : List ItemForm) (behind : Control) → k ≡ Evaluates (allocates access items) ∷ behind → list_all (is_bare_item p.types) items ≡ true) → AreObjects p.types p.variables → AllocatesApart touches k → AllocatesBare p touches k
+allocates_bare p copies k bare objects apart =
+    (objects, λ access items behind is. ((λ spot target holds kept. all_bare p.types copies spot target holds [] items (bare access items behind is) kept), apart access items behind is))

@@ -366,7 +366,7 @@ kept_gives hold.Lost kept = absurd (cc kept)
 
 kept_is : (given : Value) (h : Hold) (v : Value) → is_kept h ≡ true → IsSaid given h v → v ≡ given
 kept_is given hold.Null v kept is = absurd (cc kept)
-kept_is given (hold.Kept r) v kept is = is
+kept_is given (hold.Kept r) v kept is = is.0
 kept_is given (hold.Own r) v kept is = absurd (cc kept)
 kept_is given (hold.Alias r) v kept is = absurd (cc kept)
 kept_is given hold.Lost v kept is = absurd (cc kept)
@@ -428,30 +428,31 @@ module _ (implicit : Implicit) (body : ProgramForm) (w : Caller) (ws : List Call
         go (inl (i, is)) = given i is (back_here w.actuals w.before x i (once x) is)
         go (inr none) = other none (lost_or_not (hold_at w.before x))
 
-    pub said_back : (x : ℕ) → IsSaid (place_at (given_in ws) x) (hold_at known_back x) (place_at held_back x)
-    said_back x = go (handed_or_not w.actuals x)
+    -- What comes back refers to no record.
+    back_plain : ((i x : ℕ) → handed_at w.actuals i ≡ Some x → IsPlain (place_at places i)) → (i x : ℕ) → handed_at w.actuals i ≡ Some x → IsPlain (place_at held_back x)
+    back_plain plain i y at = copied_plain w.actuals places w.places w.before y i (place_at places i) (once y) waits.lost (not_lost i y at) at (has_place i y at) (plain i y at)
+
+    pub said_back : ((i x : ℕ) → handed_at w.actuals i ≡ Some x → IsPlain (place_at places i)) → (x : ℕ) → IsSaid (place_at (given_in ws) x) (hold_at known_back x) (place_at held_back x)
+    said_back plain x = go (handed_or_not w.actuals x)
       where
-        given : IsBack (hold_at known_back x) → IsSaid (place_at (given_in ws) x) (hold_at known_back x) (place_at held_back x)
-        given (inl own) = rw own tt
-        given (inr lost) = rw lost tt
+        given : (i : ℕ) → handed_at w.actuals i ≡ Some x → IsBack (hold_at known_back x) → IsSaid (place_at (given_in ws) x) (hold_at known_back x) (place_at held_back x)
+        given i is (inl own) = rw own (back_plain plain i x is)
+        given i is (inr lost) = rw lost tt
 
         other : IsNone w.actuals x → (hold_at w.before x ≡ hold.Lost) ⊎ (hold_at w.before x ≢ hold.Lost) → IsSaid (place_at (given_in ws) x) (hold_at known_back x) (place_at held_back x)
         other none (inl lost) = rw (back_other w.actuals w.before x none, lost) tt
         other none (inr ne) = rw (back_other w.actuals w.before x none, copied_other w.actuals places w.places w.before x none waits.lost ne) (waits.said x)
 
         go : HandedOrNot w.actuals x → IsSaid (place_at (given_in ws) x) (hold_at known_back x) (place_at held_back x)
-        go (inl (i, is)) = given (back_here w.actuals w.before x i (once x) is)
+        go (inl (i, is)) = given i is (back_here w.actuals w.before x i (once x) is)
         go (inr none) = other none (lost_or_not (hold_at w.before x))
 
     pub objects_back : ((i x : ℕ) → handed_at w.actuals i ≡ Some x → IsPlain (place_at places i)) → (x : ℕ) → hold_at known_back x ≢ hold.Lost → IsPlace w.program.types (referenced_in ws) (variable_kind w.program.variables x) (place_at held_back x)
     objects_back plain x ne = go (handed_or_not w.actuals x)
       where
-        back_plain : (i x : ℕ) → handed_at w.actuals i ≡ Some x → IsPlain (place_at held_back x)
-        back_plain i y at = copied_plain w.actuals places w.places w.before y i (place_at places i) (once y) waits.lost (not_lost i y at) at (has_place i y at) (plain i y at)
-
         -- What is handed over is no record object; what comes back there refers to no record.
         given : (i : ℕ) → handed_at w.actuals i ≡ Some x → IsPlace w.program.types (referenced_in ws) (variable_kind w.program.variables x) (place_at held_back x)
-        given i at = plain_by w.program.types (referenced_in ws) (variable_kind w.program.variables x) (place_at held_back x) (waits.hands.plain i x at) (back_plain i x at)
+        given i at = plain_by w.program.types (referenced_in ws) (variable_kind w.program.variables x) (place_at held_back x) (waits.hands.plain i x at) (back_plain plain i x at)
 
         go : HandedOrNot w.actuals x → IsPlace w.program.types (referenced_in ws) (variable_kind w.program.variables x) (place_at held_back x)
         go (inl (i, at)) = given i at

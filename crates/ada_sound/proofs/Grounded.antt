@@ -30,7 +30,6 @@ grounds program s sound = record {
   idle = sound.idle;
   copies = sound.copies;
   apart = sound.apart;
-  releases = sound.releases;
   typed = sound.typed;
   nested = sound.nested;
   finalizes = λ calm. finalizes_in program sound.well s sound.reached sound.typed calm;

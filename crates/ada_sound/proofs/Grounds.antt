@@ -32,15 +32,14 @@ use Rattle.ada_idle.proofs.Idle.{ControlIsIdle, IsIdle}
 use Rattle.ada_idle.proofs.Unadjusted.{AdjustsNone}
 use Rattle.ada_quiet.specs.Apart.{is_tracker, operations_stand_apart}
 use Rattle.ada_quiet.specs.Idle.{copies_parts, makes_parts}
-use Rattle.ada_quiet.specs.InUse.{may_be_frugal, operations_are_in_use}
+use Rattle.ada_quiet.specs.InUse.{operations_are_in_use}
 use Rattle.ada_scopes.proofs.Runs.{Scoped}
 use Rattle.ada_typed.proofs.Control as typed
 use Rattle.ada_typed.proofs.Kept.{behind_call}
 use Rattle.ada_sound.specs.Agreement.{running_procedure}
-use Rattle.ada_sound.specs.Always.{LetsNothingOut, SparesAdjusted, SparesOwn, reaches_holder}
+use Rattle.ada_sound.specs.Always.{LetsNothingOut, SparesAdjusted, SparesOwn}
 use Rattle.ada_sound.proofs.Callers.{AreCalls, Suspension, known_in, Stands}
 use Rattle.ada_sound.proofs.CallsApart.{CallApart}
-use Rattle.ada_sound.proofs.FreesInside.{FreesNoneInside}
 use Rattle.ada_sound.proofs.FrugalFrees.{Unborn}
 use Rattle.ada_sound.proofs.Fits.{Outsiders}
 use Rattle.ada_sound.proofs.Invariant.{Control, Ready}
@@ -103,8 +102,6 @@ pub record Grounds (program : Program) (s : State) : Type 0 where
   pub idle : makes_parts (program_form program) ≡ false → IsIdle (program_form program).types s
   pub copies : copies_parts (program_form program) ≡ false → AdjustsNone (program_form program).types s.control
   pub apart : operations_stand_apart (program_form program) ≡ true → CallApart (program_form program).types (is_tracker (program_form program)) s.control
-  pub releases : may_be_frugal (program_form program) ≡ true → makes_parts (program_form program) ≡ true
-      → FreesNoneInside (reaches_holder (implicit_of (program_form program)) (program_form program).types) s.control
   pub typed : typed.Typed (program_form program) s
   pub nested : Scoped (program_form program) s
   -- where no operation runs, each object that may be freed stands, and no treatment finalizes a value that does not exist

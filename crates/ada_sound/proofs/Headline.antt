@@ -26,7 +26,7 @@ use Rattle.ada_sound.proofs.Agreeing.{agrees_at}
 -- Every run of a program that is accepted keeps the invariant.
 module _ (program : Program) (accepted : IsChecked program) where
   first : (input : List ℤ) → Sound program (first_state program input)
-  first input = sound_first program input accepted.well_formed accepted.in_use accepted.nests accepted.frees_own accepted.spares_own accepted.spares_newer accepted.spares_adjusted accepted.lets_nothing_out accepted.spares_holders accepted.obeys
+  first input = sound_first program input accepted.well_formed accepted.in_use accepted.nests accepted.frees_own accepted.spares_own accepted.spares_newer accepted.spares_adjusted accepted.lets_nothing_out accepted.obeys
 
   sound_last : (input : List ℤ) (events : List Event) (last : State) → Run program (first_state program input) events last → Sound program last
   sound_last input events last run = runs.sound_run run (first input)

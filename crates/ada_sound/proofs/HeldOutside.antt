@@ -7,7 +7,7 @@ use Rattle.ada_program.specs.declared.program.ComponentKind.{ComponentKind}
 use Rattle.ada_program.specs.declared.program.ComponentKind.TheVariants as component
 use Rattle.ada_program.specs.declared.program.TypeNo.{TypeNo}
 use Rattle.ada_program.specs.declared.program.VariableKind.TheVariants as variable
-use Rattle.ada_program.specs.Nested.{Callees, are_open, callees_of, collected}
+use Rattle.ada_program.specs.Nested.{Callees, are_open, callees_of}
 use Rattle.ada_program.specs.ProgramForm.{TypeForm, ProgramForm}
 use Rattle.ada_program.specs.WellFormed.{access_of, component_kind, kind_among, reached_components}
 use Rattle.ada_meaning.specs.State.{Owned, declared, collection, record_object, storage_pool, Item, Master}
@@ -83,7 +83,7 @@ whole_outside types heap t (us ∷ ss) m outer some w =
     let fewer = w.covers.0 t in
     masters_hold_none types t ss outer (omega (arith, some, sum, once, fewer)) w.covers.1 w.needs.1 w.records.1
 
-begun_outside : (types : List TypeForm) (callees : Callees) (main : List ℕ) (calling : Bool) (s : State) (b : Begins types callees main calling s) (t : ℕ) → 1 ≤ times t (opened b.m.items)
+begun_outside : (types : List TypeForm) (callees : Callees) (main : Option (List ℕ)) (calling : Bool) (s : State) (b : Begins types callees main calling s) (t : ℕ) → 1 ≤ times t (opened b.m.items)
     → HoldNone types t (items_of b.rest)
 begun_outside types callees main calling s b t some =
     let once = b.growing.once t in
@@ -96,14 +96,14 @@ none_outside p s scoped m outer masters t some = by scoped.nested
     whole : (ss : Scopes) → Whole p.types ss s.masters s.heap → HoldNone p.types t (items_of outer)
     whole ss w = whole_outside p.types s.heap t ss m outer some (subst (λ (ms : List Master). Whole p.types ss ms s.heap) masters w)
 
-    by : Nested p.types (callees_of p) (collected p.declarations) (calls_in p) s → HoldNone p.types t (items_of outer)
+    by : Nested p.types (callees_of p) None (calls_in p) s → HoldNone p.types t (items_of outer)
     by (standing ss w n) = whole ss w
     by (beginning b) =
         let both : b.m ∷ b.rest ≡ m ∷ outer = sym b.masters ∙ masters in
         let own : m ≡ b.m = cc both in
         let rest : b.rest ≡ outer = cc both in
         subst (λ (ms : List Master). HoldNone p.types t (items_of ms)) rest
-        (begun_outside p.types (callees_of p) (collected p.declarations) (calls_in p) s b t (subst (λ (n : Master). 1 ≤ times t (opened n.items)) own some))
+        (begun_outside p.types (callees_of p) None (calls_in p) s b t (subst (λ (n : Master). 1 ≤ times t (opened n.items)) own some))
     by (parting ss w runs goes) = whole ss w
     by (resting ss w none ends) = whole ss w
 

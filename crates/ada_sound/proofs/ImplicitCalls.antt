@@ -22,7 +22,8 @@ use Rattle.ada_flow.specs.declared.rule.Rule.TheVariants.{LoopState}
 use Rattle.ada_flow.specs.Flow.{Holds, Outcome, faults, goes, hold_at, is_freed, is_among, if_own, without_alias, without_freed, without_types, without_variables, Gone, gone_with, collected, left, left_option, leaves_block, leaves_finalized, loses, declared_at, gives, gives_seen, frees_seen, waits_for, uses_in_record, uses_in_copy, uses_in_assignment, passes_it, passes_freed, component_passes, record_passes, passes_own, passes_reached, formal_record, formal_reached, way_reached, freed_behind, using_paths, ends_with, unless_broken, is_as_good, are_as_good, unless_worse, exit_of, reaches_part, formal_hold, uses_in_initial, passes_type, object_record, stays_inside, finalizes, released_behind, behind_end, without_freed_option, raising_if, Breach}
 use Rattle.ada_flow.specs.Tracking.{no_tracks}
 use Rattle.ada_flow.specs.Aliases.{is_alias}
-use Rattle.ada_flow.specs.Parts.{has_part, has_part_within}
+use Rattle.ada_flow.specs.Parts.{has_part}
+use Rattle.ada_program.specs.Parts.{has_part_within}
 use Rattle.ada_flow.proofs.Parts.{depths_are_enough, designate_is, designate_from}
 use Rattle.ada_sound.specs.Callees.{IsFollowed, FollowsTo}
 use Rattle.ada_sound.specs.ImplicitCalls.{HaveNoAlias, LeavesNoAlias, FinalizedFreeLeavesNoAlias, MayFreeAtEnd, EndedBlockLeavesNoAlias, ExitsLeaveNoAlias, DeclaredRecordLeavesNoAlias, DeclaredObjectLeavesNoAlias, StartsSpareTheTarget, AssignmentsSpareTheTarget, AssignmentsSpareTheSource, FreesSpareTheWay, LiesInFormal, FreesSpareTheFormal, SafeFreesAreLetThrough, FormalsAreAnothers, DeclaredRecordsAreTheirOwn}

@@ -893,10 +893,10 @@ PassesNoneBehind types kind (c ∷ cs) access = PassesNone types (selected_kind 
 abbrev pub PassesNoneOwn : List TypeForm → Outsiders → Value → Option VariableKind → List ℕ → Option ℕ → Type 0
 PassesNoneOwn types outer v kind cs access = PassesNone types kind cs access ⊎ (NamesOwnedOutside outer v × PassesNoneBehind types kind cs access)
 
--- Where operations may be called for an object of this access type that touch storage, those that end it neither follow nor free values of this other one, if it is an
--- access type: an object of that holds the component which names the former (7.6.1).
+-- What ends an object of this access type neither follows nor frees values of this other one, if it is an access type: an object of that holds the component which
+-- names the former (7.6.1).
 abbrev pub SparesHolder : Known → (access holder : ℕ) → Type 0
-SparesHolder known t u = known.touches t ≡ true → is_access known.program.types u ≡ true → known.implicit.end_reaches t u ≡ false
+SparesHolder known t u = is_access known.program.types u ≡ true → known.implicit.end_reaches t u ≡ false
 
 -- Of what the end of an object of this access type may free, no suspended activation and no variable has an alias, and the running body may free it (7.6.1).
 abbrev pub EndsWellBy : Known → (access : ℕ) → Holds → Type 0
@@ -954,8 +954,11 @@ abbrev pub left_in : Known → (procedure : ℕ) → Holds → Holds
 left_in known procedure holds = left_by_call known.program.variables (effect_in known procedure) holds
 
 -- Record objects and record parameters are of no access types.
+abbrev pub AreObjects : List TypeForm → List VariableForm → Type 0
+AreObjects types variables = (x : ℕ) (t : TypeNo) → variable_kind variables x ≡ Some (variable.Record t) → is_access types t.0 ≡ false
+
 abbrev pub AreRecords : Known → Type 0
-AreRecords known = (x : ℕ) (t : TypeNo) → variable_kind known.program.variables x ≡ Some (variable.Record t) → is_access known.program.types t.0 ≡ false
+AreRecords known = AreObjects known.program.types known.program.variables
 
 -- A call is next (6.4): of a procedure that the running body may call, and which the actual parameters suit. They break no rule. Behind it what is handed
 -- over is owned again, and where it raises an exception, it is lost unless it is kept.

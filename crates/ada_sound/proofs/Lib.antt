@@ -156,12 +156,6 @@ pub mod CallsApart
 pub mod CallsApartSteps
 -- in whole runs: what tracks is never called
 pub mod CallsApartRuns
--- no component of a record frees what may reach others in which such a component lies
-pub mod FreesInside
--- whatever the next step is
-pub mod FreesInsideSteps
--- in whole runs
-pub mod FreesInsideRuns
 -- the body of an operation begins and ends
 pub mod OperationCalls
 pub mod OperationStarts
@@ -193,8 +187,6 @@ mod FrugalUseFrees
 pub mod SparesOwn
 -- no object of a newer collection of a master is reached there
 pub mod SparesNewer
--- no object is reached in which a component may lie that names what ends
-pub mod SparesHolders
 -- what is freed next is among what the running body may free
 pub mod FreesCovered
 -- what is finalized at an assignment

@@ -1,5 +1,5 @@
--- What the frugal bodies of operations create nests wherever the main procedure's collections are open (7.6, 7.6.1, 3.10.2): they call procedures before them
--- alone (6.4).
+-- What the frugal bodies of operations create nests wherever the collections of all access types are open (7.6, 7.6.1, 3.10.2): they call procedures before
+-- them alone (6.4).
 
 use Rattle.std.proofs.Common.{◌≡◌, ℕ, zero, suc, ◌+◌, ◌<◌, Bool, true, false, List, [], ◌∷◌, ◌++◌, length, map, take, refl, ap, subst, arith}
 use Rattle.std.specs.List.{slice_get, slice_index_or}
@@ -11,6 +11,7 @@ use Rattle.ada_program.specs.ProgramForm.{TypeForm, BodyForm, ProgramForm, Varia
 use Rattle.ada_program.specs.WellFormed.{IsWellFormed, Profile, body_fits, profile_of, statement_fits, stmts_fit, branches_fit, handlers_fit}
 use Rattle.ada_quiet.proofs.FrugalAt.{operation_at}
 use Rattle.ada_quiet.specs.Frugal.{is_frugal_stmt, are_frugal, are_frugal_branches, are_frugal_handlers, is_frugal_body, Thrift, frugal_operations, frugal_procedures, thrift_of}
+use Rattle.ada_scopes.proofs.Lacked.{KindsOpen, kinds_open}
 use Rattle.ada_sound.proofs.FrugalBodies.{HasAll, frugal_parts, frugal_nests, more_open, part_is}
 use Rattle.ada_sound.proofs.OperationStarts.{apart}
 use Rattle.ada_typed.proofs.Bodies.{body_at}
@@ -24,11 +25,11 @@ operation_there p number told = by p.bodies number told
     by (c ∷ bs) zero told' = (c, refl)
     by (c ∷ bs) (suc n) told' = by bs n told'
 
-module _ (frugal : Thrift) (callees : Callees) (texts exceptions : List (List ℕ)) (callable : List Profile) (variables : List VariableForm)
-    (nest : (number : ℕ) → slice_index_or frugal.procedures number false ≡ true → number < length callable → (around : List ℕ) → HasAll frugal.outermost around
+module _ (frugal : Thrift) (kinds : KindsOpen frugal.types) (callees : Callees) (texts exceptions : List (List ℕ)) (callable : List Profile) (variables : List VariableForm)
+    (nest : (number : ℕ) → slice_index_or frugal.procedures number false ≡ true → number < length callable → (around : List ℕ) → HasAll frugal.types around
     → call_nests (slice_get callees number) around ≡ true) where
   mutual
-    stmt_is : (inside : Bool) (around : List ℕ) → HasAll frugal.outermost around → (f : StmtForm) → is_frugal_stmt frugal f ≡ true
+    stmt_is : (inside : Bool) (around : List ℕ) → HasAll frugal.types around → (f : StmtForm) → is_frugal_stmt frugal f ≡ true
         → statement_fits frugal.types variables texts exceptions callable inside f ≡ true → statement_nests frugal.types callees around f ≡ true
     stmt_is inside around all skips is fits = refl
     stmt_is inside around all (assigns target right) is fits = refl
@@ -50,14 +51,14 @@ module _ (frugal : Thrift) (callees : Callees) (texts exceptions : List (List �
         let three = apart _ _ two.0 in
         let fits_two = apart _ _ fits in
         let fits_three = apart _ _ fits_two.0 in
-        let within = more_open frugal.outermost (collected ds) around all in
+        let within = more_open frugal.types (collected ds) around all in
         rw (
-          part_is frugal around all ds three.0,
+          part_is frugal kinds around all ds three.0,
           stmts_are inside (collected ds ++ around) within fs three.1 fits_three.1,
           handlers_are inside (collected ds ++ around) within hs two.1 fits_two.1,
         ) refl
 
-    stmts_are : (inside : Bool) (around : List ℕ) → HasAll frugal.outermost around → (fs : StmtsForm) → are_frugal frugal fs ≡ true
+    stmts_are : (inside : Bool) (around : List ℕ) → HasAll frugal.types around → (fs : StmtsForm) → are_frugal frugal fs ≡ true
         → stmts_fit frugal.types variables texts exceptions callable inside fs ≡ true → statements_nest frugal.types callees around fs ≡ true
     stmts_are inside around all no_stmts is fits = refl
     stmts_are inside around all (a_stmt f fs) is fits =
@@ -65,7 +66,7 @@ module _ (frugal : Thrift) (callees : Callees) (texts exceptions : List (List �
         let fit = apart _ _ fits in
         rw (stmt_is inside around all f both.0 fit.0, stmts_are inside around all fs both.1 fit.1) refl
 
-    branches_are : (inside : Bool) (around : List ℕ) → HasAll frugal.outermost around → (branches : BranchesForm) → are_frugal_branches frugal branches ≡ true
+    branches_are : (inside : Bool) (around : List ℕ) → HasAll frugal.types around → (branches : BranchesForm) → are_frugal_branches frugal branches ≡ true
         → branches_fit frugal.types variables texts exceptions callable inside branches ≡ true → branches_nest frugal.types callees around branches ≡ true
     branches_are inside around all (otherwise fs) is fits = stmts_are inside around all fs is fits
     branches_are inside around all (a_branch e fs branches) is fits =
@@ -74,7 +75,7 @@ module _ (frugal : Thrift) (callees : Callees) (texts exceptions : List (List �
         let first = apart _ _ fit.0 in
         rw (stmts_are inside around all fs both.0 first.1, branches_are inside around all branches both.1 fit.1) refl
 
-    handlers_are : (inside : Bool) (around : List ℕ) → HasAll frugal.outermost around → (hs : HandlersForm) → are_frugal_handlers frugal hs ≡ true
+    handlers_are : (inside : Bool) (around : List ℕ) → HasAll frugal.types around → (hs : HandlersForm) → are_frugal_handlers frugal hs ≡ true
         → handlers_fit frugal.types variables texts exceptions callable inside hs ≡ true → handlers_nest frugal.types callees around hs ≡ true
     handlers_are inside around all no_handlers is fits = refl
     handlers_are inside around all (a_handler choices fs hs) is fits =
@@ -149,9 +150,9 @@ fits_parts types texts exceptions callable b fits =
     let four = apart _ _ five.0 in
     (four.1, five.1)
 
--- The body of a frugal operation nests wherever the main procedure's collections are open.
+-- The body of a frugal operation nests wherever the collections of all access types are open.
 pub operation_nests : (p : ProgramForm) → IsWellFormed p → (number : ℕ) → slice_index_or (frugal_operations p) number false ≡ true → (around : List ℕ)
-    → HasAll (collected p.declarations) around → call_nests (slice_get (callees_of p) number) around ≡ true
+    → HasAll p.types around → call_nests (slice_get (callees_of p) number) around ≡ true
 operation_nests p well number told around all =
     let found = operation_there p number told in
     let b = found.0 in
@@ -166,22 +167,22 @@ operation_nests p well number told around all =
     body_is b first count kept frugal fits =
         let callable = [] ++ map profile_of (take number p.bodies) in
         let three = frugal_parts (thrift_of p) b frugal in
-        let inside = more_open (collected p.declarations) (collected b.declarations) around all in
+        let inside = more_open p.types (collected b.declarations) around all in
         let both = fits_parts p.types p.texts p.exceptions callable b fits in
         rw (
-          part_is (thrift_of p) around all b.declarations three.0,
-          stmts_are (thrift_of p) first p.texts p.exceptions callable b.variables
+          part_is (thrift_of p) (kinds_open p well) around all b.declarations three.0,
+          stmts_are (thrift_of p) (kinds_open p well) first p.texts p.exceptions callable b.variables
               (λ m is below wide open_there. called first count kept m is (take_short p.bodies number m below) wide open_there)
               false (collected b.declarations ++ around) inside b.statements three.1 both.0,
-          handlers_are (thrift_of p) first p.texts p.exceptions callable b.variables
+          handlers_are (thrift_of p) (kinds_open p well) first p.texts p.exceptions callable b.variables
               (λ m is below wide open_there. called first count kept m is (take_short p.bodies number m below) wide open_there)
               false (collected b.declarations ++ around) inside b.handlers three.2 both.1,
         ) refl
       where
         called : (firsts : Callees) → length firsts ≡ number → ((j : ℕ) (x : List ℕ → Bool) → slice_get firsts j ≡ Some x → slice_get (callees_of p) j ≡ Some x)
-            → (m : ℕ) → slice_index_or (frugal_procedures p) m false ≡ true → m < number → (wide : List ℕ) → HasAll (collected p.declarations) wide
+            → (m : ℕ) → slice_index_or (frugal_procedures p) m false ≡ true → m < number → (wide : List ℕ) → HasAll p.types wide
             → call_nests (slice_get firsts m) wide ≡ true
         called firsts counted keeps m is below wide open_there =
             let one = got firsts m (omega (arith, below, counted)) in
-            let whole = frugal_nests p m is wide open_there in
+            let whole = frugal_nests p (kinds_open p well) m is wide open_there in
             rw (one.1) (subst (λ (o : Option (List ℕ → Bool)). call_nests o wide ≡ true) (keeps m one.0 one.1) whole)

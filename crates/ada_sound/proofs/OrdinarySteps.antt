@@ -209,7 +209,7 @@ unfolding next
 ordinary program s grounds out o low stays inner n is same =
     let known = known_in program (running_procedure s) o.suspensions in
     fine_in program s o.suspensions o.stands o.calm o.settled n same
-    (subst (λ (coming : Next). Fine known s.heap s.masters coming) is (inside.fine known (copies_at program (running_procedure s) o.suspensions grounds.well grounds.obeys.0) any_type program.types.items (reaches_in program (running_procedure s) o.suspensions) (body_forms program) (may_call program (running_procedure s) o.suspensions grounds.well) s (allocates_at program (running_procedure s) o.suspensions s grounds.well grounds.obeys.0 grounds.apart grounds.releases) inner grounds.typed.inside (own_bodies (program_form program) grounds.frees_own (running_procedure s)) (collect_two (program_form program) s grounds.nested) (grounds.finalizes o.calm known.program.types (outers known))
+    (subst (λ (coming : Next). Fine known s.heap s.masters coming) is (inside.fine known (copies_at program (running_procedure s) o.suspensions grounds.well grounds.obeys.0) any_type program.types.items (reaches_in program (running_procedure s) o.suspensions) (body_forms program) (may_call program (running_procedure s) o.suspensions grounds.well) s (allocates_at program (running_procedure s) o.suspensions s grounds.well grounds.obeys.0 grounds.apart) inner grounds.typed.inside (own_bodies (program_form program) grounds.frees_own (running_procedure s)) (collect_two (program_form program) s grounds.nested) (grounds.finalizes o.calm known.program.types (outers known))
     (λ p x aside found. elim aside [ inl under ↦ absurd (none_is_under program (running_procedure s) o.suspensions o.settled p under) | inr departed ↦ none_departed s.heap out p x departed ])
     (λ runs. any_freed s.control)
     low

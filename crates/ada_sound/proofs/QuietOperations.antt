@@ -17,10 +17,11 @@ use Rattle.ada_program.specs.Controlled.{number_in, is_number, number_by, operat
 use Rattle.ada_program.specs.Form.{StmtForm, skips, assigns, assigns_record, frees, gets, writes, writes_text, chooses, repeats, counts, exits, calls, returns, raises, encloses, StmtsForm, no_stmts, a_stmt, BranchesForm, otherwise, a_branch, HandlersForm, no_handlers, a_handler, DeclarationForm, creates_pool, collects, declares, declares_record}
 use Rattle.ada_program.specs.Nested.{Callees, collected, record_objects, part_nests, statement_nests, statements_nest, branches_nest, handlers_nest, body_nests, call_nests, callees_from, callees_of}
 use Rattle.ada_program.specs.ProgramForm.{TypeForm, VariableForm, BodyForm, ProgramForm, type_form, program_form, body_forms, seen_in}
-use Rattle.ada_program.specs.WellFormed.{IsWellFormed, profile_of, callable_in, finalization_in, is_operation, overrides_rightly, has_operations, have_operations}
+use Rattle.ada_program.specs.WellFormed.{IsWellFormed, is_access, profile_of, callable_in, finalization_in, is_operation, overrides_rightly, has_operations, have_operations}
 use Rattle.ada_effects.specs.Effects.{no_calls, body_raises}
 use Rattle.ada_flow.specs.Flow.{have_exit, handlers_have_exit}
 use Rattle.ada_typed.proofs.Bodies.{seen_as, seen_fits}
+use Rattle.ada_scopes.proofs.Lacked.{kinds_open}
 use Rattle.ada_scopes.specs.Scopes.{NestsWhereOpen, AllNestWhereOpen, OperationsNest}
 use Rattle.ada_quiet.specs.Apart.{is_this_one, is_adjust_of}
 use Rattle.ada_quiet.specs.Quiet.{is_quiet_stmt, are_quiet, are_quiet_branches, are_quiet_handlers, are_quiet_declarations, is_plain_body, is_quiet_body, is_plain_procedure, is_quiet_procedure, is_plain_operation, is_quiet_operation, has_access, operation_body}
@@ -299,24 +300,24 @@ module _ (p : ProgramForm) where
       let at : length more + i ≡ length before + suc i = omega (arith, length-append before (body_nests p.types before c ∷ [])) in
       (later.0, rw at at later.1)
 
-  nests_there : (number : ℕ) (b : BodyForm) → slice_get p.bodies number ≡ Some b → ((callees : Callees) (around : List ℕ) → body_nests p.types callees b around ≡ true) → (around : List ℕ) → call_nests (slice_get (callees_of p) number) around ≡ true
-  nests_there number b there nests around =
+  nests_there : (number : ℕ) (b : BodyForm) → slice_get p.bodies number ≡ Some b → (around : List ℕ) → ((callees : Callees) → body_nests p.types callees b around ≡ true) → call_nests (slice_get (callees_of p) number) around ≡ true
+  nests_there number b there around nests =
       let c = callee_is [] p.bodies number b there in
       let at : zero + number ≡ number = omega arith in
       let found : slice_get (callees_of p) number ≡ Some (body_nests p.types c.0 b) = rw at at c.1 in
-      rw found (nests c.0 around)
+      rw found (nests c.0)
 
   abbrev Nests : Option ProcedureNo → Type 0
-  Nests o = NestsWhereOpen (collected p.declarations) (callees_of p) o
+  Nests o = NestsWhereOpen (is_access p.types) (callees_of p) o
 
   abbrev AllNest : Operations → Type 0
-  AllNest o = AllNestWhereOpen (collected p.declarations) (callees_of p) o
+  AllNest o = AllNestWhereOpen (is_access p.types) (callees_of p) o
 
   plain_nests : (t : ℕ) (o : Option ProcedureNo) → overrides_rightly p.types (callable_in p) t o ≡ true → is_plain_operation p o ≡ true → Nests o
   plain_nests t None right plain = tt
   plain_nests t (Some procedure) right plain =
       let b = there_one t (Some procedure) procedure.0 right refl in
-      λ around all. nests_there procedure.0 b.0 b.1 (λ callees around'. body_is p.types callees b.0 around' (rw (b.1) at plain)) around
+      λ around all. nests_there procedure.0 b.0 b.1 around (λ callees. body_is p.types callees b.0 around (rw (b.1) at plain))
 
   initialize_nests : IsWellFormed p → (t : ℕ) (o : Option ProcedureNo) → overrides_rightly p.types (callable_in p) t o ≡ true → uses_initialize p o ≡ true → Nests o
   initialize_nests well t None right uses = tt
@@ -344,7 +345,7 @@ module _ (p : ProgramForm) where
       by (inr (inr both)) =
           let b = there_one t (Some procedure) procedure.0 right refl in
           let simple = simple_with p.types (adjusts_alone p) b.0 (rw (b.1) at both.0.1) in
-          λ around all. nests_there procedure.0 b.0 b.1 (λ callees around'. simple_nests p.types callees b.0 around' simple) around
+          λ around all. nests_there procedure.0 b.0 b.1 around (λ callees. simple_nests p.types (kinds_open p well) callees b.0 around all simple)
 
       either : ((adjusts_nothing p && is_frugal_operation p (Some procedure)) ≡ true) ⊎ (uses_called_adjust p owns (Some procedure) ≡ true) → Nests (Some procedure)
       either (inl nothing) = operation_nests p well procedure.0 (apart (adjusts_nothing p) (is_frugal_operation p (Some procedure)) nothing).1

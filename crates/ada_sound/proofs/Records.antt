@@ -244,7 +244,7 @@ module _ (known : Known) (rest : List (Activation Value)) (s : State) (types : L
       made_fit after good =
           let own : variable_access known.program.variables x ≡ Some t = record_access (variable_kind known.program.variables x) t is in
           let placed = put_there a.places x u new there in
-          weaker_fit after good (put_owner x new Whole (rw placed tt) (rw own made_both.1) made_both.0)
+          weaker_fit after good (put_owner x new Whole tt (rw placed tt) (rw own made_both.1) made_both.0)
 
       -- Where its variable is lost, nothing relies on it.
       lost_good : (after : Holds) → AsGood (slice_set w.holds x (hold.Own Whole)) after → AsGood (slice_set w.holds x hold.Lost) (slice_set after x hold.Lost)

@@ -28,8 +28,8 @@ use Rattle.ada_meaning.specs.Frame.{Does, FreesIn, Ends, GivesBack, ClearsIn, en
 use Rattle.ada_meaning.specs.State.{Activation, home_of, pool_freed_to}
 use Rattle.ada_meaning.specs.Step.{all_tasks, before_last, last_of, path_next, freed_next, free_component_next, free_in_next}
 use Rattle.ada_meaning.specs.Named.{store, Object, State, object_at, look, named, parted, whole, inside}
-use Rattle.ada_quiet.specs.Releases.{lies_inside}
-use Rattle.ada_sound.specs.Always.{reaches_holder}
+use Rattle.ada_typed.specs.Holding.{cells_of}
+use Rattle.ada_typed.proofs.Values.{AreHeld}
 use Rattle.ada_owners.specs.Keeping.{IsThere}
 use Rattle.ada_owners.specs.Places.{is_there, access_at}
 use Rattle.ada_owners.specs.Reliance.{IsOf}
@@ -40,10 +40,10 @@ use Rattle.ada_sound.proofs.Stored.{listed_out, stored_part}
 use Rattle.ada_sound.proofs.Alters.{alters_set}
 use Rattle.ada_sound.proofs.Assigned.{this_is, freed_at}
 use Rattle.ada_sound.proofs.Homes.{HaveHomes, same_one, stands_there, freed_home}
-use Rattle.ada_sound.proofs.Invariant.{Spares, CoveredIn, begun, outers, Known, Control, Goes, To, Raised, RunsOn, PassesNone, PassesNoneOwn, SparesHolder, EndsWellBy, FreesWell, Releasing, Working, Ending, Stepped, Fine, ways}
+use Rattle.ada_sound.proofs.Invariant.{AreRecords, Spares, CoveredIn, begun, outers, Known, Control, Goes, To, Raised, RunsOn, PassesNone, PassesNoneOwn, SparesHolder, EndsWellBy, FreesWell, Releasing, Working, Ending, Stepped, Fine, ways}
 use Rattle.ada_sound.proofs.Ready.{running, at_work, stays, runs_ready, jumps_less, treats_ready}
 use Rattle.ada_sound.proofs.Outcomes.{ends_goes}
-use Rattle.ada_sound.proofs.Roots.{access_leads, root_object, object_there, front_raises}
+use Rattle.ada_sound.proofs.Roots.{access_leads, kept_hold, root_object, object_there, front_raises}
 use Rattle.ada_sound.proofs.Handings.{or_false}
 use Rattle.ada_sound.proofs.Begins.{Root, IsAlone, IsPart, root_at, root_access, root_follows, kind_named, first_leads}
 use Rattle.ada_sound.proofs.Walks.{selected_access, raises_less, finds_fine}
@@ -125,8 +125,8 @@ passes_root types outer heap kind v b c cs to (Some t) leads spares passes = by 
 
 module _ (known : Known) (a : Activation Value) (rest : List (Activation Value)) (s : State) where
   -- A Free of a component begins: its object is found first.
-  pub free_begins : (c : ℕ) (cs : List ℕ) (access : ℕ) (path : PathForm) (fs : StmtsForm) (k : Control) (among : Exception → Bool) → (path_raises path ≡ true → among ConstraintError ≡ true) → is_freed_by known.program.types access (path_access known.program.types known.program.variables path) ≡ true → is_this access (path_access known.program.types known.program.variables path) ≡ true → Spares known (λ t. is_this t (path_access known.program.types known.program.variables path)) → path.selectors ≡ c ∷ cs → (known.touches access ≡ true → lies_inside path ≡ true → reaches_holder known.implicit known.program.types access ≡ false) → Working known s.heap a.places s.masters (λ rooms holds. Goes (frees_seen known.program.types known.program.variables no_tracks false known.implicit (c ∷ cs) path holds) (To (FreesTo known access (Does fs ∷ k) rooms)) (Raised among (ways known k rooms))) → Fine known s.heap s.masters (path_next named (before_last (inside (place_at a.places path.root) c) cs) (begun a.places path) (running (FreesIn access (last_of (inside (place_at a.places path.root) c) cs) ∷ Does fs ∷ k) a rest s))
-  free_begins c cs access path fs k among may freed by_own spares is outside w =
+  pub free_begins : (c : ℕ) (cs : List ℕ) (access : ℕ) (path : PathForm) (fs : StmtsForm) (k : Control) (among : Exception → Bool) → (path_raises path ≡ true → among ConstraintError ≡ true) → is_freed_by known.program.types access (path_access known.program.types known.program.variables path) ≡ true → is_this access (path_access known.program.types known.program.variables path) ≡ true → Spares known (λ t. is_this t (path_access known.program.types known.program.variables path)) → path.selectors ≡ c ∷ cs → AreHeld known.program.types (cells_of s.heap) known.program.variables a.places → AreRecords known → Working known s.heap a.places s.masters (λ rooms holds. Goes (frees_seen known.program.types known.program.variables no_tracks false known.implicit (c ∷ cs) path holds) (To (FreesTo known access (Does fs ∷ k) rooms)) (Raised among (ways known k rooms))) → Fine known s.heap s.masters (path_next named (before_last (inside (place_at a.places path.root) c) cs) (begun a.places path) (running (FreesIn access (last_of (inside (place_at a.places path.root) c) cs) ∷ Does fs ∷ k) a rest s))
+  free_begins c cs access path fs k among may freed by_own spares is held objects w =
       let types = known.program.types in
       let variables = known.program.variables in
       let own = path_access types variables path in
@@ -136,6 +136,7 @@ module _ (known : Known) (a : Activation Value) (rest : List (Activation Value))
       let kept = freed_kept (way_reached types variables known.implicit path (hold_at w.holds path.root) own) (hold_at w.holds path.root) path.spot g.0 in
       let own_or_reached = passes_own types variables path own || passes_reached types variables known.implicit path own in
       let none_on_way = first_false own_or_reached (formal_reached types variables known.implicit path (hold_at w.holds path.root) own) kept.1 in
+      let formal_spared = or_false own_or_reached (formal_reached types variables known.implicit path (hold_at w.holds path.root) own) kept.1 in
       let none_own = first_false (passes_own types variables path own) (passes_reached types variables known.implicit path own) none_on_way in
       let none_reached = or_false (passes_own types variables path own) (passes_reached types variables known.implicit path own) none_on_way in
       let v = place_at a.places path.root in
@@ -163,11 +164,8 @@ module _ (known : Known) (a : Activation Value) (rest : List (Activation Value))
         raises = front_raises known (begun a.places path) (Does fs ∷ k) w.rooms (behind_end variables own w.holds) path.of_record c (inside v c) cs
             (λ whole. object_there path.root path.spot kept.0 (root_object types variables path leads.0 leads.1 whole) w.fit)
             (λ raises. (let follows : path_raises path ≡ true = rw is raises in g.2 follows ConstraintError (may follows)));
-        spared = λ t u same holder touches is_holder. (
-            let one = same_type t same in
-            holder_aside variables known.implicit path b c cs leads.0 own t u is leads_on same (ap access_of from_here ∙ (named_type ∙ same)) none_reached
-            (λ lies. rw one (outside (rw one at touches) lies)) holder
-            );
+        spared = λ t u same holder is_holder.
+            holder_aside w.fit held objects known.implicit path (kept_hold (hold_at w.holds path.root) path.spot kept.0) b c cs leads.0 own t u is leads_on same none_reached formal_spared holder is_holder;
         runs = (g.1.0, g.1.1, (g.1.2.0, λ t same. rw (same_type t same) (g.1.2.1)));
       }))
       (root_follows path.root path.spot kept.0 w.fit)

@@ -19,7 +19,7 @@ use Rattle.ada_meaning.specs.Step.{places_of, operands_of, with_places, with_ope
 use Rattle.ada_meaning.specs.Named.{Object, State, named}
 use Rattle.ada_meaning.specs.Run.{Event}
 use Rattle.ada_sound.specs.Agreement.{running_procedure}
-use Rattle.ada_sound.proofs.Fits.{Outer, Outsiders, none_spared, Fit, IsReferred, referred_first, component_access, plain_object}
+use Rattle.ada_sound.proofs.Fits.{Outer, Outsiders, none_spared, Fit, IsReferred, IsPlain, referred_first, component_access, place_at, plain_object}
 use Rattle.ada_meaning.specs.declared.state.Id.{Id}
 use Rattle.ada_owners.specs.Places.{access_at}
 use Rattle.ada_owners.proofs.Objects.{present_at}
@@ -101,9 +101,10 @@ module _ (program : Program) (procedure : Option ℕ) (g : Suspension) (gs : Lis
     back_fit holds waits placed gave f =
         let w = caller_of program g gs in
         let ws = callers_of program gs in
+        let plain : (i x : ℕ) → handed_at g.actuals i ≡ Some x → IsPlain (place_at places i) = λ i x is. plain_object i (gives_some (hold_at holds i) (waits.hands.owes i x is holds gave)) (waits.hands.formal i x is) f in
         returned_fit (outer_of w) callee.program.variables places holds (handed_at g.actuals) given_back (handed_back g.actuals g.before) caller.program.types (outers caller) g.passed g.referenced g.under none_spared heap
         (since_back callee.implicit callee.program w ws waits places holds placed gave) (fit_there holds waits f)
-        (said_back callee.implicit callee.program w ws waits places holds placed gave) (objects_back callee.implicit callee.program w ws waits places holds placed gave (λ i x is. plain_object i (gives_some (hold_at holds i) (waits.hands.owes i x is holds gave)) (waits.hands.formal i x is) f))
+        (said_back callee.implicit callee.program w ws waits places holds placed gave plain) (objects_back callee.implicit callee.program w ws waits places holds placed gave plain)
 
     left_fit : (holds : Holds) (waits : WaitsForIt) → KeepsAll g.kept holds → FitsHere holds → Fit caller.program.types caller.program.variables (outers caller) none_spared heap g.places (left_unkept g.kept g.actuals g.before)
     left_fit holds waits keeps f =

@@ -38,9 +38,7 @@ use Rattle.ada_sound.proofs.WordsOut.{words_out}
 use Rattle.ada_sound.proofs.Trackers.{calls_stand_apart}
 use Rattle.ada_sound.proofs.Adjusting.{AdjustingCopy}
 use Rattle.ada_sound.proofs.AdjustingCopies.{WentOn, copy_goes, copy_stored}
-use Rattle.ada_sound.specs.Always.{reaches_holder}
 use Rattle.ada_sound.proofs.CallsApartRuns.{step_apart}
-use Rattle.ada_sound.proofs.FreesInsideRuns.{step_inside}
 use Rattle.ada_quiet.specs.Apart.{is_tracker}
 use Rattle.ada_sound.proofs.QuietOperations.{operations_nest}
 use Rattle.ada_sound.proofs.TouchingSteps.{touching_step}
@@ -293,15 +291,11 @@ sound_step program s choice e after r step = record {
   spares_newer = r.spares_newer;
   spares_adjusted = r.spares_adjusted;
   lets_nothing_out = r.lets_nothing_out;
-  spares_holders = r.spares_holders;
   obeys = r.obeys;
   goes = goes_so program s.heap e after (led program s choice e after r step);
   idle = λ none. step_idle program none s after choice e (r.idle none) step;
   copies = λ none. step_adjusts_none program none s after choice e (r.copies none) step;
   apart = λ stand. step_apart (program_form program).types (is_tracker (program_form program)) program (calls_stand_apart (program_form program) stand).1 s after choice e (r.apart stand) step;
-  releases = λ may made.
-      step_inside (reaches_holder (implicit_of (program_form program)) (program_form program).types) program (r.spares_holders may made) s after choice e
-      (r.releases may made) step;
   typed = step_typed program r.well s after choice e r.typed step;
   nested = step_nested program s after choice e (λ treats. operations_nest (program_form program) r.well (treats_in_use program s (grounds program s r) s.control refl treats)) r.nested step;
 }

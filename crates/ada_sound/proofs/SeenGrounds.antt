@@ -1,13 +1,12 @@
 -- A state that stands for the real one, in which some objects that have gone with their collections exist still, has what steps rest on, as the real one has: values are
 -- of their kinds, collections nest, and finalization leaves the rest. Bodies that shun the types of those objects run there as in the real one.
 
-use Rattle.std.proofs.Common.{◌≡◌, ℕ, Bool, true, false, not, List, [], ◌∷◌, Some, refl, sym, ap, ◌∙◌, subst}
+use Rattle.std.proofs.Common.{◌≡◌, ℕ, Bool, true, false, not, List, [], ◌∷◌, Some, refl, sym, ap, ◌∙◌, subst, Option, None}
 use Rattle.ada_program.specs.declared.program.Program.{Program}
 use Rattle.ada_program.specs.declared.program.TypeDefinition.{TypeDefinition}
 use Rattle.ada_program.specs.Nested.{Callees, callees_of, collected}
 use Rattle.ada_program.specs.ProgramForm.{TypeForm, BodyForm, ProgramForm, program_form, body_forms, seen_in}
 use Rattle.ada_program.specs.WellFormed.{is_access}
-use Rattle.ada_deeds.specs.Implicit.{implicit_of}
 use Rattle.ada_finalized.proofs.Twice.{operated_exist}
 use Rattle.ada_finalized.specs.Law.{NamesExisting, NoOperationRuns, NoOperationRunsOn, NothingBegins}
 use Rattle.ada_idle.proofs.Idle.{ControlIsIdle}
@@ -47,8 +46,6 @@ use Rattle.ada_untouched.specs.Alike.{NextAlike, is_ghost}
 use Rattle.ada_untouched.specs.Untouched.{Untouched}
 use Rattle.ada_sound.proofs.CallsApart.{CallApart}
 use Rattle.ada_sound.proofs.Departing.{IsLeft, Seen, has_gone, next_member, treated, confined, ended}
-use Rattle.ada_sound.specs.Always.{reaches_holder}
-use Rattle.ada_sound.proofs.FreesInside.{FreesNoneInside}
 use Rattle.ada_sound.proofs.Grounds.{Grounds, IsLeftAlone, IsReached, is_ending, may_free}
 use Rattle.ada_sound.proofs.Fits.{Outsiders}
 use Rattle.ada_sound.proofs.Invariant.{Control}
@@ -101,7 +98,7 @@ module _ {types : List ℕ} {item : ℕ} {ghosts : Id → Bool} {s v : State} (s
   housed_seen is housed o x found listed = housed o x (sym (seen_at seen o (seen_listed seen o x found listed)) ∙ found) listed
 
   -- Collections nest.
-  nested_seen : (forms : List TypeForm) (callees : Callees) (main : List ℕ) (calling : Bool) → Nested forms callees main calling s → Nested forms callees main calling (record s { heap = v.heap })
+  nested_seen : (forms : List TypeForm) (callees : Callees) (main : Option (List ℕ)) (calling : Bool) → Nested forms callees main calling s → Nested forms callees main calling (record s { heap = v.heap })
   nested_seen forms callees main calling (standing ss w n) = standing ss (whole_heap forms ss s.masters s.heap v.heap (housed_seen (items_of s.masters) w.housed) w) n
   nested_seen forms callees main calling (beginning b) = beginning (record {
     ss = b.ss;
@@ -116,6 +113,9 @@ module _ {types : List ℕ} {item : ℕ} {ghosts : Id → Bool} {s v : State} (s
     control = b.control;
     runs = b.runs;
     growing = record {
+      lacks = b.growing.lacks;
+      lacking = b.growing.lacking;
+      spare = b.growing.spare;
       first = b.growing.first;
       once = b.growing.once;
       all = b.growing.all;
@@ -142,9 +142,10 @@ module _ {types : List ℕ} {item : ℕ} {ghosts : Id → Bool} {s v : State} (s
 
   pub seen_scoped : (p : ProgramForm) → Scoped p s → Scoped p v
   seen_scoped p scoped = record {
+    kinds = scoped.kinds;
     bodies = scoped.bodies;
-    nested = subst (λ (z : State). Nested p.types (callees_of p) (collected p.declarations) (calls_in p) z) (sym seen.alike.rest)
-        (nested_seen p.types (callees_of p) (collected p.declarations) (calls_in p) scoped.nested);
+    nested = subst (λ (z : State). Nested p.types (callees_of p) None (calls_in p) z) (sym seen.alike.rest)
+        (nested_seen p.types (callees_of p) None (calls_in p) scoped.nested);
   }
 
   -- Bodies that shun some types run.
@@ -328,7 +329,6 @@ module _ (program : Program) {types : List ℕ} {item : ℕ} {ghosts : Id → Bo
         };
         copies = λ none. subst (AdjustsNone forms) (sym (seen_control seen)) (grounds.copies none);
         apart = λ stand. subst (CallApart forms (is_tracker (program_form program))) (sym (seen_control seen)) (grounds.apart stand);
-        releases = λ may made. subst (FreesNoneInside (reaches_holder (implicit_of (program_form program)) forms)) (sym (seen_control seen)) (grounds.releases may made);
         typed = seen_typed seen (program_form program) grounds.typed;
         nested = seen_scoped seen (program_form program) grounds.nested;
         finalizes = finalizes;

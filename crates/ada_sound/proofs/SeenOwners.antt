@@ -19,7 +19,7 @@ use Rattle.ada_parts.specs.declared.tasks.Direction.TheVariants.{PartsFirst}
 use Rattle.ada_parts.specs.Task.{opened}
 use Rattle.ada_typed.proofs.Parts.{shows_parent, shown_parts, shown_shapes}
 use Rattle.ada_typed.proofs.Records.{inside_kind, inside_record}
-use Rattle.ada_flow.specs.Parts.{is_record_among, has_component_among}
+use Rattle.ada_program.specs.Parts.{is_record_among, has_component_among}
 use Rattle.ada_flow.specs.Flow.{owns_among, is_owning_part, is_owning_record, leaves_copies, leaves_own, declares_owner, leaves_within}
 use Rattle.ada_flow.specs.Tracking.{access_numbers}
 use Rattle.ada_quiet.specs.InUse.{size_of_part, stand_in_a_row, adjusts_itself, is_copied_in_order}

@@ -3,7 +3,6 @@
 use Rattle.std.proofs.Common.{◌≡◌, ℕ, false, List, refl, sym, ap, ◌∙◌, subst}
 use Rattle.std.specs.Prelude.{Option, Some, None}
 use Rattle.ada_program.specs.Controlled.{number_in, number_of, number_reached, operations_of, procedure_number, shapes_of}
-use Rattle.ada_deeds.specs.Implicit.{implicit_of}
 use Rattle.ada_program.specs.declared.program.Operations.{Operations}
 use Rattle.ada_program.specs.declared.program.ProcedureNo.{ProcedureNo}
 use Rattle.ada_meaning.proofs.Places.{numbers_are_alone, types_have_their_operations}
@@ -23,9 +22,8 @@ use Rattle.ada_sound.specs.Untracked.{AdjustsNoOwners}
 use Rattle.ada_sound.proofs.Callers.{Suspension, known_in, rest_of}
 use Rattle.ada_sound.proofs.CallStatements.{MayCall}
 use Rattle.ada_sound.proofs.Defaults.{reached_same, Reaches}
-use Rattle.ada_sound.proofs.FreesInside.{FreesSpared}
 use Rattle.ada_sound.proofs.Gathered.{AllocatesApart, AllocatesBare, copies_nothing, allocates_none}
-use Rattle.ada_sound.proofs.Invariant.{Control}
+use Rattle.ada_sound.proofs.Invariant.{AreObjects, Control}
 use Rattle.ada_sound.proofs.InsideRecords.{TasksInside, no_tasks, record_inside}
 use Rattle.ada_sound.proofs.Returns.{same_types}
 use Rattle.ada_sound.proofs.Scalars.{scalars_lost}
@@ -53,15 +51,18 @@ reaches_in program procedure gs =
       subst (λ (types : List TypeForm). shown_shapes types ≡ shapes_of program.types.items) (sym same) (shapes_shown program.types.items (program_form program).types refl),
     )
 
+-- Record objects that it sees are of no access types.
+pub objects_in : (program : Program) (procedure : Option ℕ) → IsWellFormed (program_form program) → AreObjects (seen_in procedure (program_form program)).types (seen_in procedure (program_form program)).variables
+objects_in program procedure well x t is =
+    let p = seen_in procedure (program_form program) in
+    record_no_access p.types p.variables x t.0 (seen_fits (program_form program) well procedure).variables_fit (rw is (eq-eqb t.0 t.0 refl))
+
 -- What a body sees is there, and in it flow calls Integers and Booleans lost.
 pub may_call : (program : Program) (procedure : Option ℕ) (gs : List Suspension) → IsWellFormed (program_form program) → MayCall (known_in program procedure gs) (body_forms program)
 may_call program procedure gs well = record {
   among = sees (program_form program) procedure;
   lost = λ place at reached. scalars_lost program procedure (rest_of gs) reached.0 place at (seen_fits (program_form program) well procedure) reached.1;
-  records = λ x t is. (
-      let p = seen_in procedure (program_form program) in
-      record_no_access p.types p.variables x t.0 (seen_fits (program_form program) well procedure).variables_fit (rw is (eq-eqb t.0 t.0 refl))
-      );
+  records = objects_in program procedure well;
 }
 
 -- Where no Adjust is of a type that declares components of access types, all that a body copies owns nothing.
@@ -74,10 +75,9 @@ copies_in program procedure gs well none =
 
 -- Nor do the records own anything that are items of an allocator that it evaluates next.
 pub allocates_in : (program : Program) (procedure : Option ℕ) (gs : List Suspension) (k : Control) → IsWellFormed (program_form program) → AdjustsNoOwners (program_form program).types
-    → FreesSpared (known_in program procedure gs).implicit (known_in program procedure gs).program.types (known_in program procedure gs).touches k → AllocatesApart (known_in program procedure gs).touches k
-    → AllocatesBare (known_in program procedure gs).program (known_in program procedure gs).implicit (known_in program procedure gs).touches k
-allocates_in program procedure gs k well none spared apart =
-    allocates_none (implicit_of (program_form program)) (seen_in procedure (program_form program)) k (subst AdjustsNoOwners (sym (same_types procedure (program_form program))) none) spared apart
+    → AllocatesApart (known_in program procedure gs).touches k → AllocatesBare (known_in program procedure gs).program (known_in program procedure gs).touches k
+allocates_in program procedure gs k well none apart =
+    allocates_none (seen_in procedure (program_form program)) k (subst AdjustsNoOwners (sym (same_types procedure (program_form program))) none) (objects_in program procedure well) apart
 
 -- The Adjust that sees to what a record owns is overridden under the number of its type.
 pub adjust_overridden : (program : Program) (procedure : Option ℕ) → IsWellFormed (program_form program) → (r of : ℕ) → SeesToOwners (seen_in procedure (program_form program)).types r of → (number : ℕ) × (procedure_number (operations_of program.types.items of).adjust ≡ Some number)

@@ -11,14 +11,13 @@ use Rattle.ada_program.specs.declared.program.ScalarType.TheVariants.{Integer, B
 use Rattle.ada_program.specs.declared.program.VariableKind.{VariableKind}
 use Rattle.ada_program.specs.declared.program.VariableKind.TheVariants as variable
 use Rattle.ada_program.specs.Form.{PathForm, RecordPathForm, ActualForm, in_value, in_null, in_access, in_record, in_out_path, in_out_access, in_out_component, in_out_record, ExpressionForm, integer, boolean, reads, is_null, applied_to, chained, LinksForm, no_more_links, a_link, ItemForm, null_item, item_of_path, item_of_value, item_of_record, RightForm, nothing, value_of, allocates, allocates_default, computes, DeclarationForm, creates_pool, collects, declares, declares_record, StmtForm, skips, assigns, assigns_record, frees, gets, writes, writes_text, chooses, repeats, counts, exits, calls, returns, raises, encloses, StmtsForm, no_stmts, a_stmt, BranchesForm, otherwise, a_branch, HandlersForm, no_handlers, a_handler}
-use Rattle.ada_program.specs.Nested.{collected, record_nests}
 use Rattle.ada_program.specs.ProgramForm.{TypeForm, VariableForm, BodyForm, ProgramForm, seen_by}
 use Rattle.ada_program.specs.WellFormed.{Profile, callable_in, choice_fits, collection_fits, collections_first, condition_fits, declarations_fit, designated_type, finalization_of, has_statement, has_type, initial_fits, is_borrower, is_record_object, is_type, lends_to, names_before, names_borrower, object_named, path_kind, record_initial_fits, right_fits, scalar_of, selected_kind, statement_fits, stmts_fit, branches_fit, handlers_fit, type_fits, value_access, variable_fits, variable_kind}
 use Rattle.ada_quiet.specs.Bare.{has_bare_objects}
 use Rattle.ada_quiet.specs.Idle.{holds_parts}
 use Rattle.ada_quiet.specs.Apart.{is_bare_item}
-use Rattle.ada_quiet.specs.Calm.{inert_types, is_known_calm}
-use Rattle.ada_quiet.specs.Frugal.{assigns_at_hand, allocates_frugally, is_bare_initial, is_inert_named, is_inert_initial, thrift_of, frugal_procedures, is_frugal_declaration, are_frugal_declarations, is_frugal_stmt, are_frugal, are_frugal_branches, are_frugal_handlers, is_frugal_body}
+use Rattle.ada_quiet.specs.Calm.{is_known_calm, unadjusted_types, unfinalized_types}
+use Rattle.ada_quiet.specs.Frugal.{assigns_at_hand, allocates_frugally, is_bare_initial, is_inert, is_unadjusted, is_unadjusted_named, is_unadjusted_initial, thrift_of, frugal_procedures, is_frugal_declaration, are_frugal_declarations, is_frugal_stmt, are_frugal, are_frugal_branches, are_frugal_handlers, is_frugal_body}
 use Rattle.ada_deeds.specs.declared.deed.Callee.{Callee}
 use Rattle.ada_deeds.specs.declared.deed.Callee.TheVariants as callee
 use Rattle.ada_deeds.specs.declared.deed.Deed.{Deed}
@@ -29,7 +28,7 @@ use Rattle.ada_deeds.specs.Implicit.{record_at}
 use Rattle.ada_deeds.specs.Within.{does_by}
 use Rattle.ada_deeds.proofs.Naming.{KindFits, access_at, default_access, left_holds, object_at, object_type, path_fits_kind, right_holds, variable_fits_kind}
 use Rattle.ada_reaching.specs.Apart.{Apart}
-use Rattle.ada_reaching.specs.Forms.{may_assign, may_assign_named, may_fill, may_follow, may_end, selectors_shun, path_shuns, record_path_shuns, expression_shuns, links_shun, condition_shuns, item_shuns, right_shuns, actual_shuns, declaration_shuns, declarations_shun, statement_shuns, statements_shun, branches_shun, handlers_shun, body_shuns}
+use Rattle.ada_reaching.specs.Forms.{may_assign, may_copy_named, may_replace, may_fill, may_follow, may_end, selectors_shun, path_shuns, record_path_shuns, expression_shuns, links_shun, condition_shuns, item_shuns, right_shuns, actual_shuns, declaration_shuns, declarations_shun, statement_shuns, statements_shun, branches_shun, handlers_shun, body_shuns}
 use Rattle.ada_typed.proofs.Bodies.{SeenFits}
 
 -- Frugal bodies are of the shape of bodies that shun types.
@@ -164,9 +163,11 @@ module _ (p : ProgramForm) (shuns : ℕ → Bool) where
   abbrev pub StartsSpared : Apart → Type 0
   StartsSpared apart = (t : ℕ) → Spares p shuns (λ d. creation_does (does_by p d) (record_at p.types t)) → apart.starts t ≡ true
 
-  -- and records of each inert type may be assigned to as wholes.
+  -- and records of each type may end to which others are assigned that overrides no Finalize, and get their values from others, if it overrides no Adjust.
   abbrev pub AssignsInert : Apart → Type 0
-  AssignsInert apart = (t : ℕ) → is_known_calm (inert_types p.types) (finalization_of p.types t) ≡ true → apart.assigns t ≡ true
+  AssignsInert apart =
+      (t : ℕ) → (is_known_calm (unfinalized_types p.types) (finalization_of p.types t) ≡ true → apart.assigns t ≡ true)
+      × (is_known_calm (unadjusted_types p.types) (finalization_of p.types t) ≡ true → apart.copies t ≡ true)
 
   -- So it is with those that a body of a well-formed program goes by.
   module _
@@ -202,10 +203,10 @@ module _ (p : ProgramForm) (shuns : ℕ → Bool) where
         (started access (subst (λ (o : Option ℕ). Spares p shuns (λ d. creation_does (does_by p d) o)) (sym same) created))
     right_shaped kind (computes e) known fits is spares = expression_shaped p.types apart variables e
 
-    -- Records of a type that is known to be inert may be assigned to.
-    named_shaped : (o : Option ℕ) → is_inert_named (thrift_of p) o ≡ true → may_assign_named apart o ≡ true
+    -- Records of a type that is known to override no Adjust may get their values from others.
+    named_shaped : (o : Option ℕ) → is_unadjusted_named (thrift_of p) o ≡ true → may_copy_named apart o ≡ true
     named_shaped None is = absurd (cc is)
-    named_shaped (Some t) is = quietly t is
+    named_shaped (Some t) is = (quietly t).1 is
 
     -- A declaration has it (3.3.1): that of a variable,
     declaration_shaped :
@@ -231,13 +232,12 @@ module _ (p : ProgramForm) (shuns : ℕ → Bool) where
         let begun = λ (d : Deed). parts_do (does_by p d) Initialize (record_at p.types object) in
         let undone = λ (d : Deed). parts_do (does_by p d) Finalize (record_at p.types object) in
         and_from (apart.starts object) (apart.ends object) (started object created) (ended object (second begun undone created))
-    -- One without controlled parts starts with what its items are, and so does one of an inert type, which ends where its master is left.
+    -- One without controlled parts starts with what its items are, and so does one of a type that overrides no Adjust, which ends where its
+    -- master is left.
     declaration_shaped (declares_record x object (Some items)) fits is spares ends =
-        let filled = is_bare_initial p.types object items || is_inert_initial (thrift_of p) object in
-        let may = (and_parts (record_nests p.types (collected p.declarations) object) filled is).1 in
         let test = item_shuns p.types (λ t. false) apart variables in
         let bare = not (holds_parts p.types object) in
-        let named = may_assign_named apart (object_named p.types (Some object)) in
+        let named = may_copy_named apart (object_named p.types (Some object)) in
         let kind = variable_kind variables x in
         let known =
         left_holds (is_record_object object kind) (record_initial_fits p.types variables x (object_named p.types (Some object)) (Some items)) fits in
@@ -245,10 +245,10 @@ module _ (p : ProgramForm) (shuns : ℕ → Bool) where
         let same = object_at p.types object (object_type p.types types_fit variables variables_fit kind object held known) in
         let left = subst (λ (o : Option ℕ). Spares p shuns (λ d. parts_do (does_by p d) Finalize o)) (sym same) ends in
         and_from (may_fill p.types apart object) (list_all test items)
-        (elim (or_cases (is_bare_initial p.types object items) (is_inert_initial (thrift_of p) object) may) [
+        (elim (or_cases (is_bare_initial p.types object items) (is_unadjusted_initial (thrift_of p) object) is) [
           | inl bare_so ↦ or_left bare (apart.ends object && named) (and_parts bare (list_all (is_bare_item p.types) items) bare_so).0
-          | inr inert ↦
-              or_right bare (apart.ends object && named) (and_from (apart.ends object) named (ended object left) (named_shaped (object_named p.types (Some object)) inert))
+          | inr copied ↦
+              or_right bare (apart.ends object && named) (and_from (apart.ends object) named (ended object left) (named_shaped (object_named p.types (Some object)) copied))
         ])
         (all_so test (item_shaped p.types apart variables) items)
 
@@ -333,14 +333,17 @@ module _ (p : ProgramForm) (shuns : ℕ → Bool) where
           assigned :
               (f : Option Finalization) → finalization_of p.types target.record_type ≡ f
               → (if is_some f then assigns_at_hand (thrift_of p) target else list_all (is_bare_item p.types) items) ≡ true
-              → (not (is_some f) || apart.assigns target.record_type) ≡ true
+              → (not (is_some f) || may_replace apart target.record_type) ≡ true
           assigned None is h = refl
           assigned (Some f) is h =
-              let calm = is_known_calm (inert_types p.types) (finalization_of p.types target.record_type) in
+              let t = target.record_type in
+              let calm = is_inert (thrift_of p) t in
               let near = not (record_path_raises target) in
               let three = and_parts (true && calm && near) (not (target.object.root == 0 && target.part == 0)) h in
               let two = and_parts (true && calm) near three.0 in
-              quietly target.record_type (and_parts true calm two.0).1
+              let unfinalized = is_known_calm (unfinalized_types p.types) (finalization_of p.types t) in
+              let both = and_parts unfinalized (is_unadjusted (thrift_of p) t) (and_parts true calm two.0).1 in
+              and_from (apart.assigns t) (apart.copies t) ((quietly t).0 both.0) ((quietly t).1 both.1)
       statement_shaped inside (frees access path) fits frugal spares =
           let leads = path_shuns p.types (λ t. false) apart variables path in
           let kind = path_kind p.types variables path in

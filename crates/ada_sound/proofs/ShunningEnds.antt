@@ -17,7 +17,7 @@ use Rattle.ada_meaning.specs.declared.event.Birth.TheVariants.{Creation}
 use Rattle.ada_meaning.specs.declared.event.Cause.TheVariants.{Freeing}
 use Rattle.ada_meaning.specs.Frame.{Treatment, begins, ends}
 use Rattle.ada_meaning.specs.Step.{all_tasks, member_at, picked_task, tasks_for}
-use Rattle.ada_quiet.specs.Calm.{inert_types, is_known_calm}
+use Rattle.ada_quiet.specs.Calm.{is_known_calm, unadjusted_types, unfinalized_types}
 use Rattle.ada_quiet.specs.Frugal.{thrift_of, frugal_procedures, is_frugal_body}
 use Rattle.ada_quiet.specs.InUse.{operations_may_be_called}
 use Rattle.ada_quiet.proofs.FrugalAt.{frugal_at}
@@ -38,7 +38,7 @@ use Rattle.ada_reaching.specs.Forms.{body_shuns}
 use Rattle.ada_reaching.specs.Law.{AreApart}
 use Rattle.ada_reaching.specs.Deeds.{AreShaped, UseNone}
 use Rattle.ada_reaching.proofs.Deeds.{unused_apart}
-use Rattle.ada_reaching.proofs.Inert.{inert_calls_nothing}
+use Rattle.ada_reaching.proofs.Inert.{unadjusted_calls_nothing, unfinalized_calls_nothing}
 use Rattle.ada_typed.proofs.Bodies.{SeenFits, seen_as, seen_fits}
 use Rattle.ada_typed.proofs.Lying.{IsOperable, Lying, lying_all, lying_taken}
 use Rattle.ada_typed.proofs.Parts.{known_number, shapes_shown}
@@ -89,13 +89,15 @@ abbrev start_reaches : ProgramForm → (t access : ℕ) → Bool
 start_reaches p t u =
     creation_does (does_by p (freeing u)) (record_at p.types t) || creation_does (does_by p (following u)) (record_at p.types t)
 
--- These procedures; the types of which the end of an object does neither; those of which the start of an object does neither; and the inert record types.
+-- These procedures; the types of which the end of an object does neither; those of which the start of an object does neither; and the record types that
+-- override no Finalize, and no Adjust.
 abbrev apart_from : Program → (shuns : ℕ → Bool) → Apart
 apart_from program shuns = record {
   calls = is_shunning (program_form program) shuns;
   ends = λ t. none_of (program_form program) shuns (λ u. (implicit_of (program_form program)).end_reaches t u);
   starts = λ t. none_of (program_form program) shuns (λ u. start_reaches (program_form program) t u);
-  assigns = λ t. is_known_calm (inert_types (program_form program).types) (finalization_of (program_form program).types t);
+  assigns = λ t. is_known_calm (unfinalized_types (program_form program).types) (finalization_of (program_form program).types t);
+  copies = λ t. is_known_calm (unadjusted_types (program_form program).types) (finalization_of (program_form program).types t);
   definitions = program.types.items;
 }
 
@@ -335,7 +337,8 @@ module _ (program : Program) (well : IsWellFormed (program_form program)) (uses 
           (start_shuns access of part number (begun_lies program access of part begun) may).0 overrides;
       undoes = λ access of part number may begun overrides.
           (start_shuns access of part number (begun_lies program access of part begun) may).1 overrides;
-      assigns_quietly = λ direction record_type of part tasks may left. inert_calls_nothing program well direction record_type of part tasks may left;
+      assigns_quietly = λ record_type of part tasks may left. unfinalized_calls_nothing program well record_type of part tasks may left;
+      copies_quietly = λ record_type of part tasks may left. unadjusted_calls_nothing program well record_type of part tasks may left;
     }
 
     -- They free and follow no value of the types,
@@ -380,7 +383,7 @@ module _ (program : Program) (well : IsWellFormed (program_form program)) (uses 
       bodies = λ n b among there.
           let fits : SeenFits (seen_by n b p) = subst (λ (own : ProgramForm). SeenFits own) (seen_as p n b there) (seen_fits p well (Some n)) in
           let frugal = subst (λ (found : Option BodyForm). is_frugal_one p found ≡ true) there (shunning_parts p shuns n among).0 in
-          body_shaped p shuns apart calls_frugal ends_spared starts_spared (λ t inert. inert) n b fits frugal
+          body_shaped p shuns apart calls_frugal ends_spared starts_spared (λ t. ((λ known. known), (λ known. known))) n b fits frugal
           (body_spares p shuns n b there (uses_none n among));
       operations = operations_apart;
     }

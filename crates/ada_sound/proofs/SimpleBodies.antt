@@ -10,7 +10,8 @@ use Rattle.ada_quiet.specs.Bare.{has_bare_objects}
 use Rattle.ada_quiet.specs.Frugal.{Thrift, allocates_frugally, are_frugal_declarations, is_frugal_stmt, are_frugal, are_frugal_branches, are_frugal_handlers, is_frugal_body}
 use Rattle.ada_quiet.specs.Simple.{is_plain_item, is_simple_right, are_simple_declarations, is_simple_stmt, are_simple, are_simple_branches, are_simple_handlers, is_simple_body, holds_one_value}
 use Rattle.ada_typed.proofs.OfKinds.{and_both}
-use Rattle.ada_sound.proofs.FrugalBodies.{calling_none, lone_nests}
+use Rattle.ada_scopes.proofs.Lacked.{KindsOpen}
+use Rattle.ada_sound.proofs.FrugalBodies.{HasAll, calling_none, lone_nests}
 use Rattle.ada_sound.proofs.Allowance.{Allowance, allocates_thriftily, are_thrifty_declarations, is_thrifty_stmt, are_thrifty, are_thrifty_branches, are_thrifty_handlers, is_thrifty_body}
 use Rattle.ada_sound.proofs.OperationStarts.{apart}
 
@@ -197,8 +198,8 @@ simple_thrifty allowance b is =
       thrifty_handlers allowance b.handlers parts.handlers,
     ) refl
 
--- It creates no collection, so it nests anywhere.
+-- It creates no collection, so it nests wherever those of all access types are open.
 pub simple_nests :
-    (types : List TypeForm) (callees : Callees) (b : BodyForm) (around : List ℕ) → is_simple_body types true b ≡ true
+    (types : List TypeForm) → KindsOpen types → (callees : Callees) (b : BodyForm) (around : List ℕ) → HasAll types around → is_simple_body types true b ≡ true
     → body_nests types callees b around ≡ true
-simple_nests types callees b around is = lone_nests types callees b around (simple_frugal (calling_none types) b is)
+simple_nests types kinds callees b around all is = lone_nests types kinds callees b around all (simple_frugal (calling_none types) b is)

@@ -49,6 +49,7 @@ bare_apart program = record {
   ends = has_bare_objects (program_form program).types;
   starts = λ access. false;
   assigns = λ record_type. false;
+  copies = λ record_type. false;
   definitions = program.types.items;
 }
 
@@ -89,7 +90,8 @@ are_bare program shuns = record {
         absurd (cc (none));
     initializes = λ access of part number may begun overrides. absurd (cc);
     undoes = λ access of part number may begun overrides. absurd (cc);
-    assigns_quietly = λ direction record_type of part tasks may left. absurd (cc);
+    assigns_quietly = λ record_type of part tasks may left. absurd (cc);
+    copies_quietly = λ record_type of part tasks may left. absurd (cc);
   };
 }
 

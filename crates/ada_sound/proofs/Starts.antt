@@ -5,7 +5,6 @@ use Rattle.std.proofs.Common.{◌≡◌, ℕ, zero, suc, true, false, List, [], 
 use Rattle.std.specs.Prelude.{ℤ, Option, Some, None}
 use Rattle.std.specs.List.{slice_get}
 use Rattle.ada_deeds.specs.Implicit.{implicit_of}
-use Rattle.ada_quiet.specs.InUse.{may_be_frugal}
 use Rattle.ada_program.specs.declared.program.Program.{Program}
 use Rattle.ada_program.specs.ProgramForm.{TypeForm, VariableForm, BodyForm, program_form, main_body, seen_in}
 use Rattle.ada_program.specs.WellFormed.{IsWellFormed}
@@ -18,7 +17,7 @@ use Rattle.ada_flow.specs.Tracking.{Tracks, no_tracks}
 use Rattle.ada_meaning.specs.Step.{blanks}
 use Rattle.ada_meaning.specs.Named.{State, named}
 use Rattle.ada_meaning.specs.Run.{here, first_state}
-use Rattle.ada_sound.specs.Always.{LetsNothingOut, SparesAdjusted, SparesHolders, SparesNewer, SparesOwn, reaches_holder}
+use Rattle.ada_sound.specs.Always.{LetsNothingOut, SparesAdjusted, SparesNewer, SparesOwn}
 use Rattle.ada_idle.proofs.Idle.{IsIdle}
 use Rattle.ada_idle.proofs.Runs.{first_idle}
 use Rattle.ada_idle.proofs.Unadjusted.{AdjustsNone}
@@ -38,8 +37,6 @@ use Rattle.ada_sound.proofs.Bodies.{IsBody, IsFine, seen_is, tracks_in, obeys_in
 use Rattle.ada_sound.proofs.BodyRuns.{body_runs, none_suspended}
 use Rattle.ada_sound.proofs.Exits.{no_exits, no_exit_handlers}
 use Rattle.ada_sound.proofs.Invariant.{Ready}
-use Rattle.ada_sound.proofs.FreesInside.{FreesNoneInside}
-use Rattle.ada_sound.proofs.FreesInsideRuns.{first_inside}
 use Rattle.ada_sound.proofs.Callers.{known_in}
 use Rattle.ada_sound.proofs.Touching.{Touching}
 use Rattle.ada_sound.proofs.Departing.{Departing}
@@ -61,14 +58,11 @@ pub record Sound (program : Program) (s : State) : Type 0 where
   pub spares_newer : SparesNewer program
   pub spares_adjusted : SparesAdjusted (program_form program)
   pub lets_nothing_out : LetsNothingOut (program_form program)
-  pub spares_holders : SparesHolders program
   pub obeys : Obeys program
   pub goes : Ordinary program s ⊎ (Operates program s ⊎ (Touching program s ⊎ (AdjustingCopy program s ⊎ Departing program s)))
   pub idle : makes_parts (program_form program) ≡ false → IsIdle (program_form program).types s
   pub copies : copies_parts (program_form program) ≡ false → AdjustsNone (program_form program).types s.control
   pub apart : operations_stand_apart (program_form program) ≡ true → CallApart (program_form program).types (is_tracker (program_form program)) s.control
-  pub releases : may_be_frugal (program_form program) ≡ true → makes_parts (program_form program) ≡ true
-      → FreesNoneInside (reaches_holder (implicit_of (program_form program)) (program_form program).types) s.control
   pub typed : typed.Typed (program_form program) s
   pub nested : Scoped (program_form program) s
 
@@ -119,8 +113,8 @@ ready_first program input well obeys =
       },
     )
 
-pub sound_first : (program : Program) (input : List ℤ) → IsWellFormed (program_form program) → operations_are_in_use (program_form program) ≡ true → CollectionsNest (program_form program) → FreesItsOwn (program_form program) → SparesOwn program → SparesNewer program → SparesAdjusted (program_form program) → LetsNothingOut (program_form program) → SparesHolders program → ObeysRules program → Sound program (first_state program input)
-sound_first program input well uses nest own spares newer adjusted lets_none holders obeys = let obeys_so : Obeys program = (tracks_safely (program_form program) well uses, obeys) in record {
+pub sound_first : (program : Program) (input : List ℤ) → IsWellFormed (program_form program) → operations_are_in_use (program_form program) ≡ true → CollectionsNest (program_form program) → FreesItsOwn (program_form program) → SparesOwn program → SparesNewer program → SparesAdjusted (program_form program) → LetsNothingOut (program_form program) → ObeysRules program → Sound program (first_state program input)
+sound_first program input well uses nest own spares newer adjusted lets_none obeys = let obeys_so : Obeys program = (tracks_safely (program_form program) well uses, obeys) in record {
   reached = (input, [], here);
   well = well;
   in_use = uses;
@@ -129,7 +123,6 @@ sound_first program input well uses nest own spares newer adjusted lets_none hol
   spares_newer = newer;
   spares_adjusted = adjusted;
   lets_nothing_out = lets_none;
-  spares_holders = holders;
   obeys = obeys_so;
   goes = inl (record {
     suspensions = [];
@@ -144,7 +137,6 @@ sound_first program input well uses nest own spares newer adjusted lets_none hol
       let bodies = calls_stand_apart (program_form program) stand in
       first_apart (program_form program).types (is_tracker (program_form program)) program bodies.1 bodies.0 input
       );
-  releases = λ may made. first_inside (reaches_holder (implicit_of (program_form program)) (program_form program).types) program (holders may made) input;
   typed = first_typed program input well;
   nested = first_nested program well nest input;
 }

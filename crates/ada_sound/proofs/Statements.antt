@@ -17,8 +17,6 @@ use Rattle.ada_program.specs.ProgramForm.{BodyForm}
 use Rattle.ada_effects.specs.Effects.{effects_of, stmt_raises, expression_raises, path_raises, condition_raises, right_raises, right_starts, right_frees, ending_frees}
 use Rattle.ada_flow.specs.Flow.{Holds, Outcome, hold_at, loses, finalizes, released, without_freed, uses_in_target, uses_in_start, initializes, ends_with, bounds_flow, gives, gives_seen, gets_path, frees_seen, leaves_path, clears, begins_pair, exit_of, declared_at, collected, gone_with, computed, component_passes, passes_it, waits_for}
 use Rattle.ada_flow.specs.Tracking.{no_tracks}
-use Rattle.ada_quiet.specs.Releases.{lies_inside}
-use Rattle.ada_sound.specs.Always.{reaches_holder}
 use Rattle.ada_meaning.specs.declared.state.Value.{Value}
 use Rattle.ada_meaning.specs.declared.state.Mode.TheVariants.{Raising, Exiting, Returning}
 use Rattle.ada_meaning.specs.Frame.{Elaborates, Does, Decides, Repeats, Turns, Ranges, Counts, Exits, Handles, Closes, Evaluates, Computes, Stores, Declares, Writes}
@@ -41,7 +39,7 @@ use Rattle.ada_sound.proofs.Copied.{record_there}
 use Rattle.ada_sound.proofs.Records.{has_place, record_fine}
 use Rattle.ada_sound.proofs.Wholes.{record_begins}
 use Rattle.ada_sound.proofs.RecordAssignments.{copy_begins}
-use Rattle.ada_sound.proofs.Invariant.{outers, Spares, owed_by, Known, Where, below, Control, Rooms, Roomed, Goes, To, Raised, Doing, Choosing, TurnsTo, condition_among, assignment_among, component_among, Counting, Elaborating, Handled, Outside, RunsOn, RunsAfter, RaisesAfter, behind_right, Deciding, TurningOn, ExitingTo, Computing, IsOne, NoneBroken, Pairs, StaysFound, Takes, Working, Resumes, EvaluatesTo, Fine, ways}
+use Rattle.ada_sound.proofs.Invariant.{AreRecords, outers, Spares, owed_by, Known, Where, below, Control, Rooms, Roomed, Goes, To, Raised, Doing, Choosing, TurnsTo, condition_among, assignment_among, component_among, Counting, Elaborating, Handled, Outside, RunsOn, RunsAfter, RaisesAfter, behind_right, Deciding, TurningOn, ExitingTo, Computing, IsOne, NoneBroken, Pairs, StaysFound, Takes, Working, Resumes, EvaluatesTo, Fine, ways}
 use Rattle.ada_sound.proofs.Ready.{running, at_work, with_less, at_less, stays, lost_stored, ready_on, runs_on, jumps, jumps_less}
 use Rattle.ada_sound.proofs.Nestings.{Starting, starts, others_do, branch_does, chooses_from, repeats_from, turn_runs, counts_from, count_runs, exit_parts, encloses_from}
 use Rattle.ada_sound.proofs.Outcomes.{Down, return_goes, goes_map, to_before, raised_before, raised_less, then_goes, using_goes, computed_goes, initializes_after, loses_goes, before_lost}
@@ -50,7 +48,6 @@ use Rattle.ada_sound.proofs.Leavings.{all_among}
 use Rattle.ada_sound.proofs.Targets.{component_begins, get_begins, half_begins}
 use Rattle.ada_sound.proofs.Followings.{first_kept}
 use Rattle.ada_sound.proofs.Frees.{FreesTo, free_fine}
-use Rattle.ada_sound.proofs.FreesInside.{FreesSpared}
 use Rattle.ada_sound.proofs.Handings.{passed_safe}
 use Rattle.ada_sound.proofs.Releases.{free_begins}
 use Rattle.ada_sound.proofs.CallStatements.{MayCall, call_begins}
@@ -263,14 +260,14 @@ module _ (known : Known) where
         (before_lost variables may raised downs)
         (loses_goes variables may o (RunsOn known k rooms) raised lost)
 
-    frees_fine : (may : ℕ → Bool) (defined : List TypeDefinition) (cs : List ℕ) (access : ℕ) (path : PathForm) (fs : StmtsForm) (k : Control) → HaveHomes may known.program.types (outers known) s.heap s.masters → may access ≡ true → is_freed_by known.program.types access (path_access known.program.types known.program.variables path) ≡ true → is_this access (path_access known.program.types known.program.variables path) ≡ true → Spares known (λ t. is_this t (path_access known.program.types known.program.variables path)) → path.selectors ≡ cs → (known.touches access ≡ true → lies_inside path ≡ true → reaches_holder known.implicit known.program.types access ≡ false) → Working known s.heap a.places s.masters (λ rooms holds. Goes (frees_seen known.program.types known.program.variables no_tracks false known.implicit cs path holds) (To (FreesTo known access (Does fs ∷ k) rooms)) (Raised (free_among path) (ways known k rooms))) → Fine known s.heap s.masters (frees_next named defined cs access path.root (running (Does fs ∷ k) a rest s))
-    frees_fine may defined [] access path fs k homes freely freed by_own spares is outside w =
+    frees_fine : (may : ℕ → Bool) (defined : List TypeDefinition) (cs : List ℕ) (access : ℕ) (path : PathForm) (fs : StmtsForm) (k : Control) → HaveHomes may known.program.types (outers known) s.heap s.masters → may access ≡ true → is_freed_by known.program.types access (path_access known.program.types known.program.variables path) ≡ true → is_this access (path_access known.program.types known.program.variables path) ≡ true → Spares known (λ t. is_this t (path_access known.program.types known.program.variables path)) → path.selectors ≡ cs → AreHeld known.program.types (cells_of s.heap) known.program.variables a.places → AreRecords known → Working known s.heap a.places s.masters (λ rooms holds. Goes (frees_seen known.program.types known.program.variables no_tracks false known.implicit cs path holds) (To (FreesTo known access (Does fs ∷ k) rooms)) (Raised (free_among path) (ways known k rooms))) → Fine known s.heap s.masters (frees_next named defined cs access path.root (running (Does fs ∷ k) a rest s))
+    frees_fine may defined [] access path fs k homes freely freed by_own spares is held objects w =
         let own = freed_at known.program.types known.program.variables access path freed in
         let at : path_access known.program.types known.program.variables path ≡ Some access = this_is access (path_access known.program.types known.program.variables path) by_own in
         let one : own.0 ≡ access = let other = own.1 in cc (at, other) in
         free_fine known a rest s defined access path.root (value_root known.program.types known.program.variables path own.0 is own.1) path.spot fs k (λ rooms. Raised (free_among path) (ways known k rooms)) may homes freely own.0 one (sym (ap (λ (cs : List ℕ). access_of (selectors_kind known.program.types (variable_kind known.program.variables path.root) cs)) is) ∙ own.2) own.3 (spares own.0 (ap (is_this own.0) own.1 ∙ eq-eqb own.0 own.0 refl)) (at_work w (subst (λ (t : ℕ). Goes (released known.program.variables path.root path.spot w.holds (hold_at w.holds path.root)) (To (FreesTo known t (Does fs ∷ k) w.rooms)) (Raised (free_among path) (ways known k w.rooms))) (sym one) w.rest))
-    frees_fine may defined (c ∷ cs) access path fs k homes freely freed by_own spares is outside w =
-        free_begins known a rest s c cs access path fs k (free_among path) (λ may. may) freed by_own spares is outside w
+    frees_fine may defined (c ∷ cs) access path fs k homes freely freed by_own spares is held objects w =
+        free_begins known a rest s c cs access path fs k (free_among path) (λ may. may) freed by_own spares is held objects w
 
     gets_fine : (cs : List ℕ) (target : PathForm) (input : List ℤ) (fs : StmtsForm) (k : Control) → target.selectors ≡ cs → (target.of_record ≡ true → is_object known.program.variables target.root ≡ true) → Working known s.heap a.places s.masters (λ rooms holds. Goes (gets_path no_tracks cs target holds) (RunsOn known (Does fs ∷ k) rooms) (Raised (get_among target) (ways known k rooms))) → Fine known s.heap s.masters (gets_next named cs target.root input (running (Does fs ∷ k) a rest s))
     gets_fine (c ∷ cs) target input fs k is whole w =
@@ -365,9 +362,9 @@ module _ (known : Known) where
         (first.0, (λ may. first.2 may ConstraintError (or_left (expression_raises low) (expression_raises high) may)), (second.0, (λ may. second.2 may ConstraintError (or_right (expression_raises low) (expression_raises high) may)), (λ v. second.1)))
 
     -- Statements.
-    stmt_fine : (may : ℕ → Bool) (defined : List TypeDefinition) → Reaches known defined → (bodies : List BodyForm) → CopiesWell known.program.types → (inside : Bool) (here : Where) (f : StmtForm) → (is_call f ≡ true → MayCall known bodies) → (fs : StmtsForm) (k : Control) → FreesSpared known.implicit known.program.types known.touches (Does (a_stmt f fs) ∷ k) → HaveHomes may known.program.types (outers known) s.heap s.masters → FreesAmong may (Does (a_stmt f fs) ∷ k) → statement_is_of_kind known.program.types known.program.variables known.program.texts known.program.exceptions (callable_in known.program) inside f ≡ true → statement_frees_own known.program.types known.program.variables f ≡ true → Working known s.heap a.places s.masters (λ rooms holds. Starting known here f fs k (ways known k rooms) holds) → Fine known s.heap s.masters (stmt_next named defined bodies f (running (Does fs ∷ k) a rest s))
-    stmt_fine may defined reaches bodies copies inside here skips calling fs k outside homes freely fits own w = runs_on known (Does fs ∷ k) a rest s (at_work w w.rest.1.0) Quiet tt
-    stmt_fine may defined reaches bodies copies inside here (assigns target right) calling fs k outside homes freely fits own w =
+    stmt_fine : (may : ℕ → Bool) (defined : List TypeDefinition) → Reaches known defined → (bodies : List BodyForm) → CopiesWell known.program.types → (inside : Bool) (here : Where) (f : StmtForm) → (is_call f ≡ true → MayCall known bodies) → (fs : StmtsForm) (k : Control) → AreHeld known.program.types (cells_of s.heap) known.program.variables a.places → AreRecords known → HaveHomes may known.program.types (outers known) s.heap s.masters → FreesAmong may (Does (a_stmt f fs) ∷ k) → statement_is_of_kind known.program.types known.program.variables known.program.texts known.program.exceptions (callable_in known.program) inside f ≡ true → statement_frees_own known.program.types known.program.variables f ≡ true → Working known s.heap a.places s.masters (λ rooms holds. Starting known here f fs k (ways known k rooms) holds) → Fine known s.heap s.masters (stmt_next named defined bodies f (running (Does fs ∷ k) a rest s))
+    stmt_fine may defined reaches bodies copies inside here skips calling fs k held objects homes freely fits own w = runs_on known (Does fs ∷ k) a rest s (at_work w w.rest.1.0) Quiet tt
+    stmt_fine may defined reaches bodies copies inside here (assigns target right) calling fs k held objects homes freely fits own w =
         let types = known.program.types in
         let variables = known.program.variables in
         let leads = right_leads types variables (path_kind types variables target) right (and_parts (right_fits types variables (path_kind types variables target) right) (lends_to variables (names_borrower variables target) right) fits).0 in
@@ -380,7 +377,7 @@ module _ (known : Known) where
         assign_fine target.selectors target right fs k refl (root_object types variables target leads.0 leads.1)
         (stays_found known w.holds target.selectors target right leads.0 refl leads.1 used.0)
         (at_work w goes_on)
-    stmt_fine may defined reaches bodies copies inside here (assigns_record target items) calling fs k outside homes freely fits own w =
+    stmt_fine may defined reaches bodies copies inside here (assigns_record target items) calling fs k held objects homes freely fits own w =
         assigned_fine (has_parts defined target.record_type) refl
       where
         two : (is_record_path known.program.types known.program.variables target ≡ true) × (record_fits known.program.types known.program.variables target.record_type items ≡ true)
@@ -399,7 +396,7 @@ module _ (known : Known) where
             let some = parted (number_of defined (Some target.record_type)) refl has in
             copy_begins known a rest s copies target items fs k some.0 some.1 w.rest.4 two.0 two.1 (at_work w w.rest.1)
         assigned_fine false has = record_begins known a rest s copies target items fs k (bare (number_of defined (Some target.record_type)) refl has) (record_there known.program.types known.program.variables target two.0) (at_work w w.rest.1)
-    stmt_fine may defined reaches bodies copies inside here (frees access path) calling fs k outside homes freely fits own w =
+    stmt_fine may defined reaches bodies copies inside here (frees access path) calling fs k held objects homes freely fits own w =
         let types = known.program.types in
         let variables = known.program.variables in
         let freed = path_access types variables path in
@@ -407,29 +404,29 @@ module _ (known : Known) where
         let at : freed ≡ Some access = this_is access freed own in
         let ending : Spares known (known.implicit.end_frees access) = λ t i. w.rest.4 t (or_right (is_this t freed) (ending_frees known.implicit t freed) (rw at i)) in
         let goes_on = frees_goes freed access (frees_seen types variables no_tracks false known.implicit path.selectors path w.holds) (Does fs ∷ k) w.rooms (Raised (free_among path) out) at ending (raised_before (free_among path) out) w.rest.1 in
-        frees_fine may defined path.selectors access path fs k homes freely (and_parts _ _ fits).0 own (λ t i. w.rest.4 t (or_left (is_this t freed) (ending_frees known.implicit t freed) i)) refl (outside access path fs k refl) (at_work w goes_on)
-    stmt_fine may defined reaches bodies copies inside here (gets target) calling fs k outside homes freely fits own w = (
+        frees_fine may defined path.selectors access path fs k homes freely (and_parts _ _ fits).0 own (λ t i. w.rest.4 t (or_left (is_this t freed) (ending_frees known.implicit t freed) i)) refl held objects (at_work w goes_on)
+    stmt_fine may defined reaches bodies copies inside here (gets target) calling fs k held objects homes freely fits own w = (
         let types = known.program.types in
         let variables = known.program.variables in
         let leads = integer_leads (path_kind types variables target) fits in
         gets_fine target.selectors target s.input fs k refl (root_object types variables target leads.0 leads.1) (at_work w w.rest.1)
         )
-    stmt_fine may defined reaches bodies copies inside here (writes e) calling fs k outside homes freely fits own w =
+    stmt_fine may defined reaches bodies copies inside here (writes e) calling fs k held objects homes freely fits own w =
         let h = computed_goes e w.holds (RunsOn known (Does fs ∷ k) w.rooms) (Raised (λ x. is_same x ConstraintError && expression_raises e) (ways known k w.rooms)) w.rest.1 in
         ready_on known (Computes e ∷ Writes ∷ Does fs ∷ k) a rest s a.operands (at_work w (h.0, (λ may. h.2 may ConstraintError may), h.1))
-    stmt_fine may defined reaches bodies copies inside here (writes_text text) calling fs k outside homes freely fits own w = runs_on known (Does fs ∷ k) a rest s (at_work w w.rest.1.0) (Line _) tt
-    stmt_fine may defined reaches bodies copies inside here (chooses branches) calling fs k outside homes freely fits own w = branches_fine branches (Does fs ∷ k) (at_work w (chooses_from known here branches fs k (ways known k w.rooms) w.holds w.rest))
-    stmt_fine may defined reaches bodies copies inside here (repeats condition body end_spot) calling fs k outside homes freely fits own w =
+    stmt_fine may defined reaches bodies copies inside here (writes_text text) calling fs k held objects homes freely fits own w = runs_on known (Does fs ∷ k) a rest s (at_work w w.rest.1.0) (Line _) tt
+    stmt_fine may defined reaches bodies copies inside here (chooses branches) calling fs k held objects homes freely fits own w = branches_fine branches (Does fs ∷ k) (at_work w (chooses_from known here branches fs k (ways known k w.rooms) w.holds w.rest))
+    stmt_fine may defined reaches bodies copies inside here (repeats condition body end_spot) calling fs k held objects homes freely fits own w =
         runs_on known (Repeats condition body ∷ Does fs ∷ k) a rest s (at_work w (repeats_from known here condition body end_spot fs k (ways known k w.rooms) w.holds w.rest)) Quiet tt
-    stmt_fine may defined reaches bodies copies inside here (counts x low high body end_spot) calling fs k outside homes freely fits own w =
+    stmt_fine may defined reaches bodies copies inside here (counts x low high body end_spot) calling fs k held objects homes freely fits own w =
         ready_on known (Computes low ∷ Computes high ∷ Ranges x body ∷ Does fs ∷ k) a rest s a.operands
         (at_work w (bounds_fine x low high body fs k w.rooms w.holds (counts_from known here x low high body end_spot fs k (ways known k w.rooms) w.holds w.rest)))
-    stmt_fine may defined reaches bodies copies inside here (exits condition spot) calling fs k outside homes freely fits own w =
+    stmt_fine may defined reaches bodies copies inside here (exits condition spot) calling fs k held objects homes freely fits own w =
         exit_fine condition (Does fs ∷ k) (at_work w (exit_parts known here.start here.inside condition spot w.holds (RunsOn known (Does fs ∷ k) w.rooms) (Raised (λ e. is_same e ConstraintError && condition_raises condition) (ways known k w.rooms)) (ways known k w.rooms).exited w.rest.1 (w.rest.2 refl)))
-    stmt_fine may defined reaches bodies copies inside here (calls procedure actuals) calling fs k outside homes freely fits own w = call_begins known bodies (calling refl) here procedure actuals fs k a rest s fits w
-    stmt_fine may defined reaches bodies copies inside here (returns spot) calling fs k outside homes freely fits own w = jumps known (Does fs ∷ k) a rest s Returning (at_work w (w.rest.3 w.holds (return_goes known.program.variables (owed_by known) here.within spot w.holds (Doing known fs k (ways known k w.rooms)) (Raised (λ e. stmt_raises (effects_of known.implicit known.program) (is_same e) (returns spot)) (ways known k w.rooms)) w.rest.1)))
-    stmt_fine may defined reaches bodies copies inside here (raises e) calling fs k outside homes freely fits own w = jumps_less known (Does fs ∷ k) a rest s (Raising e) (at_work w (w.rest.1.1 e (same_here e)))
-    stmt_fine may defined reaches bodies copies inside here (encloses ds body hs) calling fs k outside homes freely fits own w =
+    stmt_fine may defined reaches bodies copies inside here (calls procedure actuals) calling fs k held objects homes freely fits own w = call_begins known bodies (calling refl) here procedure actuals fs k a rest s fits w
+    stmt_fine may defined reaches bodies copies inside here (returns spot) calling fs k held objects homes freely fits own w = jumps known (Does fs ∷ k) a rest s Returning (at_work w (w.rest.3 w.holds (return_goes known.program.variables (owed_by known) here.within spot w.holds (Doing known fs k (ways known k w.rooms)) (Raised (λ e. stmt_raises (effects_of known.implicit known.program) (is_same e) (returns spot)) (ways known k w.rooms)) w.rest.1)))
+    stmt_fine may defined reaches bodies copies inside here (raises e) calling fs k held objects homes freely fits own w = jumps_less known (Does fs ∷ k) a rest s (Raising e) (at_work w (w.rest.1.1 e (same_here e)))
+    stmt_fine may defined reaches bodies copies inside here (encloses ds body hs) calling fs k held objects homes freely fits own w =
         stays known Quiet _ (
           tt,
           record {
@@ -442,7 +439,7 @@ module _ (known : Known) where
           },
         ) tt
 
-    pub stmts_fine : (may : ℕ → Bool) (defined : List TypeDefinition) → Reaches known defined → (bodies : List BodyForm) → CopiesWell known.program.types → (inside : Bool) (fs : StmtsForm) → (begins_call fs ≡ true → MayCall known bodies) → (k : Control) → FreesSpared known.implicit known.program.types known.touches (Does fs ∷ k) → HaveHomes may known.program.types (outers known) s.heap s.masters → FreesAmong may (Does fs ∷ k) → statements_are_of_kind known.program.types known.program.variables known.program.texts known.program.exceptions (callable_in known.program) inside fs ≡ true → statements_free_own known.program.types known.program.variables fs ≡ true → Resumes known s.heap a.places s.masters (Does fs ∷ k) → Fine known s.heap s.masters (stmts_next named defined bodies fs (running k a rest s))
-    stmts_fine may defined reaches bodies copies inside fs calling k outside homes freely fits own (inr h) = half_begins known a rest s defined bodies fs k h
-    stmts_fine may defined reaches bodies copies inside no_stmts calling k outside homes freely fits own (inl w) = runs_on known k a rest s (at_less w w.rest.2.0) Quiet tt
-    stmts_fine may defined reaches bodies copies inside (a_stmt f fs) calling k outside homes freely fits own (inl w) = stmt_fine may defined reaches bodies copies inside w.rest.0 f calling fs k outside homes freely (and_parts _ _ fits).0 (and_parts _ _ own).0 (at_work w (starts known f fs k (ways known k w.rooms) w.holds w.rest))
+    pub stmts_fine : (may : ℕ → Bool) (defined : List TypeDefinition) → Reaches known defined → (bodies : List BodyForm) → CopiesWell known.program.types → (inside : Bool) (fs : StmtsForm) → (begins_call fs ≡ true → MayCall known bodies) → (k : Control) → AreHeld known.program.types (cells_of s.heap) known.program.variables a.places → AreRecords known → HaveHomes may known.program.types (outers known) s.heap s.masters → FreesAmong may (Does fs ∷ k) → statements_are_of_kind known.program.types known.program.variables known.program.texts known.program.exceptions (callable_in known.program) inside fs ≡ true → statements_free_own known.program.types known.program.variables fs ≡ true → Resumes known s.heap a.places s.masters (Does fs ∷ k) → Fine known s.heap s.masters (stmts_next named defined bodies fs (running k a rest s))
+    stmts_fine may defined reaches bodies copies inside fs calling k held objects homes freely fits own (inr h) = half_begins known a rest s defined bodies fs k h
+    stmts_fine may defined reaches bodies copies inside no_stmts calling k held objects homes freely fits own (inl w) = runs_on known k a rest s (at_less w w.rest.2.0) Quiet tt
+    stmts_fine may defined reaches bodies copies inside (a_stmt f fs) calling k held objects homes freely fits own (inl w) = stmt_fine may defined reaches bodies copies inside w.rest.0 f calling fs k held objects homes freely (and_parts _ _ fits).0 (and_parts _ _ own).0 (at_work w (starts known f fs k (ways known k w.rooms) w.holds w.rest))

@@ -176,9 +176,9 @@ module _ (known : Known) (copies : CopiesWell known.program.types) (may : ℕ �
         let computed : AreComputed known.program.types (cells_of s.heap) (lies_in u ∷ lies_in u ∷ fits.0) (v ∷ below) = rw (fits.2) at (t.2) in
         assigns_fine known a rest s types reaches k u (v ∷ below) computed.0 (second_refers u fits.0 below computed.1) r
 
-    frame_fine : (f : Frame Value) → (calls_next (f ∷ k) ≡ true → MayCall known bodies) → AllocatesBare known.program known.implicit known.touches (f ∷ k) → crosses Running (f ∷ k) ≡ false → RunsTyped known s.heap (f ∷ k) a.places a.operands → StateTyped known.program may (outers known).under s.heap s.masters → FinalizesBy may known.program.types (outers known) types bodies f (running k a rest s) → FreesAmong may (f ∷ k) → ((mode : Mode) (behind : Control) → f ∷ k ≡ Leaves mode ∷ behind → HeldIn s.heap s.masters × NamedBelow (outers known) s.heap s.masters × GoesWell known.program.types s.heap (innermost s.masters)) → departs_next (departs known.ahead (innermost s.masters)) (f ∷ k) ≡ false → ReadyBy known f k s.heap a.places a.operands s.masters → Fine known s.heap s.masters (frame_next named types bodies f (running k a rest s))
+    frame_fine : (f : Frame Value) → (calls_next (f ∷ k) ≡ true → MayCall known bodies) → AllocatesBare known.program known.touches (f ∷ k) → crosses Running (f ∷ k) ≡ false → RunsTyped known s.heap (f ∷ k) a.places a.operands → StateTyped known.program may (outers known).under s.heap s.masters → FinalizesBy may known.program.types (outers known) types bodies f (running k a rest s) → FreesAmong may (f ∷ k) → ((mode : Mode) (behind : Control) → f ∷ k ≡ Leaves mode ∷ behind → HeldIn s.heap s.masters × NamedBelow (outers known) s.heap s.masters × GoesWell known.program.types s.heap (innermost s.masters)) → departs_next (departs known.ahead (innermost s.masters)) (f ∷ k) ≡ false → ReadyBy known f k s.heap a.places a.operands s.masters → Fine known s.heap s.masters (frame_next named types bodies f (running k a rest s))
     frame_fine (Elaborates ds fs hs) calling bare inner t kept well freely low stays r = declarations_fine known a rest s copies fs hs k types ds t.3 t.1.2 r
-    frame_fine (Does fs) calling bare inner t kept well freely low stays r = stmts_fine known a rest s may types reaches bodies copies t.1.1 fs calling k bare.0 (homes_in kept well) freely t.1.2.0 (t.1.2.1 kept.own) r
+    frame_fine (Does fs) calling bare inner t kept well freely low stays r = stmts_fine known a rest s may types reaches bodies copies t.1.1 fs calling k t.3 bare.0 (homes_in kept well) freely t.1.2.0 (t.1.2.1 kept.own) r
     frame_fine (Decides fs branches) calling bare inner t kept well freely low stays r = decided_fine known (record a { operands = older a.operands }) rest s fs branches (named.reads_boolean (first_or Null a.operands)) k r
     frame_fine (Repeats condition body) calling bare inner t kept well freely low stays r = repeats_fine known a rest s condition body k r
     frame_fine (Turns e body) calling bare inner t kept well freely low stays r = turned_fine known (record a { operands = older a.operands }) rest s e body (named.reads_boolean (first_or Null a.operands)) k r
@@ -229,7 +229,7 @@ module _ (known : Known) (copies : CopiesWell known.program.types) (may : ℕ �
     frame_fine (Clears x) calling bare inner t kept well freely low stays r = stores_fine known k a rest s kept.plain x Null a.operands (inl r)
     frame_fine (ClearsIn o c) calling bare inner t kept well freely low stays r = clear_fine known k a rest s o c r
 
-  mode_fine : (types : List TypeDefinition) → Reaches known types → (bodies : List BodyForm) (mode : Mode) (k : Control) → (calls_next k ≡ true → MayCall known bodies) → AllocatesBare known.program known.implicit known.touches k → (a : Activation Value) (rest : List (Activation Value)) (s : State) → crosses mode k ≡ false → (mode ≡ Running → ends_operation k ≡ false → RunsTyped known s.heap k a.places a.operands) → StateTyped known.program may (outers known).under s.heap s.masters → FinalizesIn may known.program.types (outers known) types bodies mode k (record s { activations = a ∷ rest }) → (mode ≡ Running → FreesAmong may k) → ((left : Mode) (behind : Control) → mode ≡ Running → k ≡ Leaves left ∷ behind → HeldIn s.heap s.masters × NamedBelow (outers known) s.heap s.masters × GoesWell known.program.types s.heap (innermost s.masters)) → (mode ≡ Running → departs_next (departs known.ahead (innermost s.masters)) k ≡ false) → ReadyIn known mode k s.heap a.places a.operands s.masters → Fine known s.heap s.masters (mode_next named types bodies mode (record s { mode = mode; control = k; activations = a ∷ rest }))
+  mode_fine : (types : List TypeDefinition) → Reaches known types → (bodies : List BodyForm) (mode : Mode) (k : Control) → (calls_next k ≡ true → MayCall known bodies) → AllocatesBare known.program known.touches k → (a : Activation Value) (rest : List (Activation Value)) (s : State) → crosses mode k ≡ false → (mode ≡ Running → ends_operation k ≡ false → RunsTyped known s.heap k a.places a.operands) → StateTyped known.program may (outers known).under s.heap s.masters → FinalizesIn may known.program.types (outers known) types bodies mode k (record s { activations = a ∷ rest }) → (mode ≡ Running → FreesAmong may k) → ((left : Mode) (behind : Control) → mode ≡ Running → k ≡ Leaves left ∷ behind → HeldIn s.heap s.masters × NamedBelow (outers known) s.heap s.masters × GoesWell known.program.types s.heap (innermost s.masters)) → (mode ≡ Running → departs_next (departs known.ahead (innermost s.masters)) k ≡ false) → ReadyIn known mode k s.heap a.places a.operands s.masters → Fine known s.heap s.masters (mode_next named types bodies mode (record s { mode = mode; control = k; activations = a ∷ rest }))
   mode_fine types reaches bodies Running [] calling bare a rest s inner t kept well freely low stays r = r
   mode_fine types reaches bodies Running (frame.Awaits v by done of part tasks ∷ k) calling bare a rest s inner t kept well freely low stays r = awaits_fine known a rest s types bodies k (λ treatment o of. Unit {0}) v by done of part tasks r.0 r.1
   mode_fine types reaches bodies Running (frame.Confines ∷ k) calling bare a rest s inner t kept well freely low stays r = confines_fine known a rest s k r
@@ -241,18 +241,18 @@ module _ (known : Known) (copies : CopiesWell known.program.types) (may : ℕ �
   mode_fine types reaches bodies Returning [] calling bare a rest s inner t kept well freely low stays r = r
   mode_fine types reaches bodies Returning (f ∷ k) calling bare a rest s inner t kept well freely low stays r = returning_fine known k a rest s f inner r
 
-  active_fine : (types : List TypeDefinition) → Reaches known types → (bodies : List BodyForm) (all : List (Activation Value)) (s : State) → (calls_next s.control ≡ true → MayCall known bodies) → AllocatesBare known.program known.implicit known.touches s.control → IsActive all → crosses s.mode s.control ≡ false → (s.mode ≡ Running → ends_operation s.control ≡ false → RunsTyped known s.heap s.control (places_of all) (operands_of all)) → StateTyped known.program may (outers known).under s.heap s.masters → FinalizesIn may known.program.types (outers known) types bodies s.mode s.control (record s { activations = all }) → (s.mode ≡ Running → FreesAmong may s.control) → ((left : Mode) (behind : Control) → s.mode ≡ Running → s.control ≡ Leaves left ∷ behind → HeldIn s.heap s.masters × NamedBelow (outers known) s.heap s.masters × GoesWell known.program.types s.heap (innermost s.masters)) → (s.mode ≡ Running → departs_next (departs known.ahead (innermost s.masters)) s.control ≡ false) → Ready known (record s { activations = all }) → Fine known s.heap s.masters (mode_next named types bodies s.mode (record s { activations = all }))
+  active_fine : (types : List TypeDefinition) → Reaches known types → (bodies : List BodyForm) (all : List (Activation Value)) (s : State) → (calls_next s.control ≡ true → MayCall known bodies) → AllocatesBare known.program known.touches s.control → IsActive all → crosses s.mode s.control ≡ false → (s.mode ≡ Running → ends_operation s.control ≡ false → RunsTyped known s.heap s.control (places_of all) (operands_of all)) → StateTyped known.program may (outers known).under s.heap s.masters → FinalizesIn may known.program.types (outers known) types bodies s.mode s.control (record s { activations = all }) → (s.mode ≡ Running → FreesAmong may s.control) → ((left : Mode) (behind : Control) → s.mode ≡ Running → s.control ≡ Leaves left ∷ behind → HeldIn s.heap s.masters × NamedBelow (outers known) s.heap s.masters × GoesWell known.program.types s.heap (innermost s.masters)) → (s.mode ≡ Running → departs_next (departs known.ahead (innermost s.masters)) s.control ≡ false) → Ready known (record s { activations = all }) → Fine known s.heap s.masters (mode_next named types bodies s.mode (record s { activations = all }))
   active_fine types reaches bodies [] s calling bare i inner t kept well freely low stays r = absurd i
   active_fine types reaches bodies (a ∷ rest) s calling bare i inner t kept well freely low stays r = mode_fine types reaches bodies s.mode s.control calling bare a rest s inner t kept well freely low stays r.1
 
   -- One step keeps the invariant, where no body begins and none ends; what calls rely on need hold only where one is next.
-  pub fine_unless_called : (types : List TypeDefinition) → Reaches known types → (bodies : List BodyForm) (s : State) → (calls_next s.control ≡ true → MayCall known bodies) → AllocatesBare known.program known.implicit known.touches s.control → crosses s.mode s.control ≡ false → typed.TypedIn known.program s → OwnBody known.program → AllPairs CollectTwoTypes (items_of s.masters) → FinalizesIn may known.program.types (outers known) types bodies s.mode s.control s → NoneIsUnder may (outers known).under s.heap → (s.mode ≡ Running → FreesAmong may s.control) → ((left : Mode) (behind : Control) → s.mode ≡ Running → s.control ≡ Leaves left ∷ behind → HeldIn s.heap s.masters × NamedBelow (outers known) s.heap s.masters × GoesWell known.program.types s.heap (innermost s.masters)) → (s.mode ≡ Running → departs_next (departs known.ahead (innermost s.masters)) s.control ≡ false) → Ready known s → Fine known s.heap s.masters (next types bodies s)
+  pub fine_unless_called : (types : List TypeDefinition) → Reaches known types → (bodies : List BodyForm) (s : State) → (calls_next s.control ≡ true → MayCall known bodies) → AllocatesBare known.program known.touches s.control → crosses s.mode s.control ≡ false → typed.TypedIn known.program s → OwnBody known.program → AllPairs CollectTwoTypes (items_of s.masters) → FinalizesIn may known.program.types (outers known) types bodies s.mode s.control s → NoneIsUnder may (outers known).under s.heap → (s.mode ≡ Running → FreesAmong may s.control) → ((left : Mode) (behind : Control) → s.mode ≡ Running → s.control ≡ Leaves left ∷ behind → HeldIn s.heap s.masters × NamedBelow (outers known) s.heap s.masters × GoesWell known.program.types s.heap (innermost s.masters)) → (s.mode ≡ Running → departs_next (departs known.ahead (innermost s.masters)) s.control ≡ false) → Ready known s → Fine known s.heap s.masters (next types bodies s)
   unfolding next
   fine_unless_called types reaches bodies s calling bare inner typing own lone well aside freely low stays r =
       let heap = heap_typed known.program s typing in
       active_fine types reaches bodies s.activations s calling bare r.0 inner (runs_typed known s typing) (record { pooled = heap.0; lone = lone; plain = heap.1; own = own; aside = aside }) well freely low stays r
 
   -- So it does where what calls rely on holds.
-  pub fine : (types : List TypeDefinition) → Reaches known types → (bodies : List BodyForm) → MayCall known bodies → (s : State) → AllocatesBare known.program known.implicit known.touches s.control → crosses s.mode s.control ≡ false → typed.TypedIn known.program s → OwnBody known.program → AllPairs CollectTwoTypes (items_of s.masters) → FinalizesIn may known.program.types (outers known) types bodies s.mode s.control s → NoneIsUnder may (outers known).under s.heap → (s.mode ≡ Running → FreesAmong may s.control) → ((left : Mode) (behind : Control) → s.mode ≡ Running → s.control ≡ Leaves left ∷ behind → HeldIn s.heap s.masters × NamedBelow (outers known) s.heap s.masters × GoesWell known.program.types s.heap (innermost s.masters)) → (s.mode ≡ Running → departs_next (departs known.ahead (innermost s.masters)) s.control ≡ false) → Ready known s → Fine known s.heap s.masters (next types bodies s)
+  pub fine : (types : List TypeDefinition) → Reaches known types → (bodies : List BodyForm) → MayCall known bodies → (s : State) → AllocatesBare known.program known.touches s.control → crosses s.mode s.control ≡ false → typed.TypedIn known.program s → OwnBody known.program → AllPairs CollectTwoTypes (items_of s.masters) → FinalizesIn may known.program.types (outers known) types bodies s.mode s.control s → NoneIsUnder may (outers known).under s.heap → (s.mode ≡ Running → FreesAmong may s.control) → ((left : Mode) (behind : Control) → s.mode ≡ Running → s.control ≡ Leaves left ∷ behind → HeldIn s.heap s.masters × NamedBelow (outers known) s.heap s.masters × GoesWell known.program.types s.heap (innermost s.masters)) → (s.mode ≡ Running → departs_next (departs known.ahead (innermost s.masters)) s.control ≡ false) → Ready known s → Fine known s.heap s.masters (next types bodies s)
   fine types reaches bodies calling s bare inner typing own lone well aside freely low stays r =
       fine_unless_called types reaches bodies s (λ next. calling) bare inner typing own lone well aside freely low stays r

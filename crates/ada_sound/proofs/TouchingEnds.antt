@@ -553,7 +553,7 @@ module _ (program : Program) (well : IsWellFormed (program_form program)) (s : S
           holds = goes.0;
           stored = own_stored (begins Creation done) is;
           roomed = f.waits.roomed;
-          fit = weaker_fit goes.0 goes.1 (put_owner x (Names f.object) Whole (plain_place own.program.types (outers own).referenced own.program.variables f.places x (Names f.object) other tt) (rw access (in_hand r.is_held r.nowhere)) own_fit);
+          fit = weaker_fit goes.0 goes.1 (put_owner x (Names f.object) Whole tt (plain_place own.program.types (outers own).referenced own.program.variables f.places x (Names f.object) other tt) (rw access (in_hand r.is_held r.nowhere)) own_fit);
           rest = goes.2;
         })
 

@@ -514,7 +514,7 @@ module _ (known : Known) (o : Id) (x : Object) (heap : List Object) (found : obj
         held = false;
         hand = tt;
         watch = Some watched_here;
-        spared = (at, there, other, spared_holder touches);
+        spared = (at, there, other, spared_holder);
         rests = rests_as_owned known way end false (Some watched_here) o x.cell.access x.cell.home places operands behind_release masters r.rooms r.holds (inr (inl releases_here));
         fit = fit_before;
         stored = stored_at_end way end o (outers known).under heap masters stored;

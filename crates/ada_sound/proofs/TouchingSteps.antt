@@ -90,7 +90,7 @@ module _ (program : Program) (s : State) (f : Touching program s) (grounds : Gro
       let known = known_in program procedure f.suspensions in
       stays_next program s f coming same
       (inside.fine known (copies_at program procedure f.suspensions grounds.well grounds.obeys.0) (may_free program s) program.types.items (reaches_in program procedure f.suspensions) (body_forms program) (may_call program procedure f.suspensions grounds.well) s
-      (allocates_at program procedure f.suspensions s grounds.well grounds.obeys.0 grounds.apart grounds.releases) none grounds.typed.inside (own_bodies p grounds.frees_own procedure) (collect_two p s grounds.nested)
+      (allocates_at program procedure f.suspensions s grounds.well grounds.obeys.0 grounds.apart) none grounds.typed.inside (own_bodies p grounds.frees_own procedure) (collect_two p s grounds.nested)
       (touching_stands program s grounds f.suspensions f.within f.stands f.ready known.program.types) (none_is_under program s grounds f.suspensions f.within f.stands)
       (touching_frees program s grounds f.suspensions f.ready)
       (λ left behind runs at. (

@@ -17,22 +17,18 @@ use Rattle.ada_quiet.specs.Bare.{has_bare_objects}
 use Rattle.ada_quiet.specs.Idle.{makes_parts}
 use Rattle.ada_quiet.specs.InUse.{may_be_frugal, is_copied_in_order}
 use Rattle.ada_quiet.specs.Calm.{are_calm_in}
-use Rattle.ada_deeds.specs.Implicit.{implicit_of}
-use Rattle.ada_sound.specs.Always.{reaches_holder}
 use Rattle.ada_sound.proofs.CalmObjects.{calm_if_bare}
 use Rattle.ada_sound.proofs.Callers.{Suspension, known_in}
 use Rattle.ada_sound.proofs.CallsApart.{CallApart}
 use Rattle.ada_sound.proofs.CallsApartRuns.{no_record_allocated, no_tracker_called}
 use Rattle.ada_sound.proofs.CopiedOwners.{CopiesWell}
-use Rattle.ada_sound.proofs.FreesInside.{FreesNoneInside, FreesSpared, spared_among, spared_inside}
 use Rattle.ada_sound.proofs.Gathered.{AllocatesApart, AllocatesBare, allocates_bare}
-use Rattle.ada_sound.proofs.Invariant.{Control}
+use Rattle.ada_sound.proofs.Invariant.{AreObjects, Control}
 use Rattle.ada_sound.proofs.OnlyRows.{AreCopiedInOrder}
 use Rattle.ada_sound.proofs.CoveredOwners.{covered_there}
 use Rattle.ada_sound.proofs.SeenOwners.{copies_well}
 use Rattle.ada_sound.proofs.Returns.{same_types}
-use Rattle.ada_sound.proofs.Sees.{copies_in, allocates_in}
-use Rattle.ada_sound.proofs.Standing.{FreesAmong}
+use Rattle.ada_sound.proofs.Sees.{copies_in, objects_in, allocates_in}
 use Rattle.ada_sound.proofs.Touched.{touches_in}
 use Rattle.ada_sound.proofs.Trackers.{TracksApart, TracksSafely, nothing_adjusts}
 
@@ -79,56 +75,26 @@ makes_apart p s apart' access items behind is = by (may_be_frugal p) refl
         and_right (makes_parts p) (not (are_calm_in p access))
         (ap not (calm_if_bare p access (bare_next p s may apart' access items behind is).0))
 
--- Where operations may touch storage, and something creates an object with controlled parts, no component of a record that is freed in what is left to do names
--- an object whose end reaches one in which such a component lies.
-abbrev pub StaysOutside : ProgramForm → Control → Type 0
-StaysOutside p k = may_be_frugal p ≡ true → makes_parts p ≡ true → FreesNoneInside (reaches_holder (implicit_of p) p.types) k
-
--- So what is freed next spares these.
-frees_outside : (p : ProgramForm) (k : Control) → StaysOutside p k → FreesSpared (implicit_of p) p.types (touches_in p) k
-frees_outside p k outside =
-    spared_inside (implicit_of p) p.types (touches_in p) k
-    (λ access touches. (
-    let both = and_parts (may_be_frugal p) (makes_parts p) (and_parts (may_be_frugal p && makes_parts p) (not (are_calm_in p access)) touches).0 in
-    outside both.0 both.1
-    ))
-
--- So it does as a body of the program sees it.
-frees_outside_in : (program : Program) (procedure : Option ℕ) (k : Control) → StaysOutside (program_form program) k
-    → FreesSpared (implicit_of (program_form program)) (seen_in procedure (program_form program)).types (touches_in (program_form program)) k
-frees_outside_in program procedure k outside =
-    let p = program_form program in
-    subst (λ (types : List TypeForm). FreesSpared (implicit_of p) types (touches_in p) k) (sym (same_types procedure p)) (frees_outside p k outside)
-
--- So it does where it has no controlled parts.
-pub frees_bare_spared : (p : ProgramForm) (types : List TypeForm) (k : Control) → FreesAmong (λ access. has_bare_objects p.types access) k
-    → FreesSpared (implicit_of p) types (touches_in p) k
-frees_bare_spared p types k among =
-    spared_among (λ access. has_bare_objects p.types access) (implicit_of p) types (touches_in p) k
-    (λ access bare. and_right (may_be_frugal p && makes_parts p) (not (are_calm_in p access)) (ap not (calm_if_bare p access bare))) among
-
 -- And the records among those items own nothing.
 pub tracked_bare :
     (program : Program) → IsWellFormed (program_form program) → TracksApart (program_form program) → (own : ProgramForm) → own.types ≡ (program_form program).types
-    → (s : State) → FreesSpared (implicit_of (program_form program)) own.types (touches_in (program_form program)) s.control
-    → StaysApart (program_form program) s.control
-    → AllocatesBare own (implicit_of (program_form program)) (touches_in (program_form program)) s.control
-tracked_bare program well stand own same s spared apart' =
+    → (s : State) → AreObjects own.types own.variables → StaysApart (program_form program) s.control
+    → AllocatesBare own (touches_in (program_form program)) s.control
+tracked_bare program well stand own same s objects apart' =
     let p = program_form program in
-    allocates_bare (implicit_of p) own (subst CopiesWell (sym same) (tracked_well program well stand.1)) s.control
+    allocates_bare own (subst CopiesWell (sym same) (tracked_well program well stand.1)) s.control
     (λ access items behind is. subst (λ (types : List TypeForm). list_all (is_bare_item types) items ≡ true) (sym same) (bare_next p s stand.0 apart' access items behind is).1)
-    spared (makes_apart p s apart')
+    objects (makes_apart p s apart')
 
 -- So it is with an allocator that a body of the program evaluates next.
 pub allocates_at : (program : Program) (procedure : Option ℕ) (gs : List Suspension) (s : State) → IsWellFormed (program_form program) → TracksSafely (program_form program) → StaysApart (program_form program) s.control
-    → StaysOutside (program_form program) s.control
-    → AllocatesBare (known_in program procedure gs).program (known_in program procedure gs).implicit (known_in program procedure gs).touches s.control
-allocates_at program procedure gs s well (inl none) apart' outside =
+    → AllocatesBare (known_in program procedure gs).program (known_in program procedure gs).touches s.control
+allocates_at program procedure gs s well (inl none) apart' =
     let p = program_form program in
-    allocates_in program procedure gs s.control well (nothing_adjusts p none) (frees_outside_in program procedure s.control outside) (makes_apart p s apart')
-allocates_at program procedure gs s well (inr stand) apart' outside =
+    allocates_in program procedure gs s.control well (nothing_adjusts p none) (makes_apart p s apart')
+allocates_at program procedure gs s well (inr stand) apart' =
     let p = program_form program in
-    tracked_bare program well stand (seen_in procedure p) (same_types procedure p) s (frees_outside_in program procedure s.control outside) apart'
+    tracked_bare program well stand (seen_in procedure p) (same_types procedure p) s (objects_in program procedure well) apart'
 
 -- What is called next tracks nothing.
 pub called_apart : (program : Program) (s : State) (number : ℕ) (b : BodyForm) (actuals : List ActualForm) (k : Control) → s.control ≡ Calls number b actuals ∷ k → TracksSafely (program_form program)

@@ -12,7 +12,7 @@ use Rattle.ada_program.specs.declared.program.PartKind.TheVariants as part
 use Rattle.ada_program.specs.declared.program.ProcedureNo.{ProcedureNo}
 use Rattle.ada_program.specs.ProgramForm.{PartForm, TypeForm, record_of, access_to, object_of, BodyForm}
 use Rattle.ada_program.specs.WellFormed.{is_inherited, variable_kind}
-use Rattle.ada_flow.specs.Parts.{is_record_among, has_component_among}
+use Rattle.ada_program.specs.Parts.{is_record_among, has_component_among}
 use Rattle.ada_flow.specs.Flow.{is_owning_part, is_owning_record, leaves_copies, leaves_own, owns_within, declares_owner, leaves_within, leaves_owners, object_record, is_procedure, tracked_of, tracked_by_adjust, tracks_of}
 use Rattle.ada_flow.specs.Tracking.{no_tracks, tracks_behind, number_within, access_numbers}
 use Rattle.ada_sound.specs.Untracked.{AdjustsNoOwners}

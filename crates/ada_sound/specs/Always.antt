@@ -1,8 +1,7 @@
 -- What holds in every run of a program, whatever its input and whatever is granted and picked.
 
-use Rattle.std.specs.Prelude.{◌≡◌, ◌↔◌, ◌⊎◌, ℕ, suc, ℤ, Bool, true, false, not, ◌&&◌, ◌||◌, List, [], ◌∷◌, Option, Some, None, All, AllPairs}
-use Rattle.std.specs.List.{filter, list_any}
-use Rattle.ada_program.specs.declared.program.ComponentKind.{ComponentKind}
+use Rattle.std.specs.Prelude.{◌≡◌, ◌↔◌, ◌⊎◌, ℕ, suc, ℤ, Bool, true, false, not, ◌&&◌, List, [], ◌∷◌, Option, Some, All, AllPairs}
+use Rattle.std.specs.List.{filter}
 use Rattle.ada_program.specs.declared.program.Exception.{Exception}
 use Rattle.ada_program.specs.declared.program.Program.{Program}
 use Rattle.ada_program.specs.declared.program.TypeNo.{TypeNo}
@@ -10,7 +9,7 @@ use Rattle.ada_text.specs.declared.spot.Spot.{Spot}
 use Rattle.ada_flow.specs.declared.rule.Rule.{Rule}
 use Rattle.ada_program.specs.Form.{declaration_forms, stmt_forms, handler_forms}
 use Rattle.ada_program.specs.ProgramForm.{ProgramForm, TypeForm, record_of, access_to, object_of, main_body, program_form, seen_in}
-use Rattle.ada_program.specs.WellFormed.{IsWellFormed, components_reached, designated_type, is_access, named_in}
+use Rattle.ada_program.specs.WellFormed.{IsWellFormed, designated_type, is_access}
 use Rattle.ada_program.specs.Nested.{CollectionsNest}
 use Rattle.ada_program.specs.Freed.{FreesItsOwn}
 use Rattle.ada_deeds.specs.Does.{Does}
@@ -32,13 +31,10 @@ use Rattle.ada_meaning.specs.Beginning.{BeginsStatement}
 use Rattle.ada_meaning.specs.Named.{Object, State, object_at}
 use Rattle.ada_meaning.specs.Run.{Event, Run, Halts, first_state}
 use Rattle.ada_meaning.specs.Law.{IsBackHome, items_of, Falls, MastersFall, GivesBackOf, Happened, IsHoused, HasPool, OwnTwoPools, IsDeclaredPool, IsBack, HasEnded}
-use Rattle.ada_scopes.specs.Scopes.{HoldsNames}
 use Rattle.ada_sound.specs.Agreement.{Agrees, Place, Turning, IsFlowAt, IsBehind, IsSpokenOf, running_procedure}
 use Rattle.ada_sound.specs.StandsFor.{IsBeingLeft, StandsFor}
-use Rattle.ada_quiet.specs.Bare.{is_component_of}
 use Rattle.ada_quiet.specs.Idle.{makes_parts, copies_parts}
-use Rattle.ada_quiet.specs.InUse.{may_be_frugal, operations_are_in_use}
-use Rattle.ada_quiet.specs.Releases.{text_frees_inside}
+use Rattle.ada_quiet.specs.InUse.{operations_are_in_use}
 
 -- Of the events of each run, and the state that it comes to.
 abbrev pub InEveryRun : Program → (List Event → State → Type 0) → Type 0
@@ -79,36 +75,6 @@ pub record LetsNothingOut (p : ProgramForm) : Type 0 where
   pub finalizes : makes_parts p ≡ true → (e : Exception) (t : TypeNo) → ¬ (Does p (Raises e) (callee.Parts Finalize t))
   pub adjusts : copies_parts p ≡ true → (e : Exception) (t : TypeNo) → ¬ (Does p (Raises e) (callee.Parts Adjust t))
 
--- One of the components of the objects of a type, if there are some, is of this access type (3.8, 3.10).
-abbrev pub hold_one : (access : ℕ) → Option (List ComponentKind) → Bool
-hold_one t None = false
-hold_one t (Some components) = list_any (is_component_of t) components
-
--- The end of an object of an access type reaches one of these types, from a number on, whose objects have a component of the former: one that names the object
--- may lie there (7.6.1). No value of a type is followed by which a record object is known.
-abbrev pub reaches_one : Implicit → List TypeForm → (access : ℕ) → (from : ℕ) → List TypeForm → Bool
-reaches_one implicit types t n [] = false
-reaches_one implicit types t n (form ∷ rest) =
-    (implicit.end_reaches t n && hold_one t (components_reached types (named_in (Some form)))) || reaches_one implicit types t (suc n) rest
-
--- So it does of all types.
-abbrev pub reaches_holder : Implicit → List TypeForm → (access : ℕ) → Bool
-reaches_holder implicit types t = reaches_one implicit types t 0 types
-
--- In a program in which a Finalize may touch storage, and something creates an object with controlled parts, no component of a record object, and none of a
--- formal parameter, frees an object whose end reaches an access type whose objects have such a component: so the object in which it lies stays as it is.
-abbrev pub SparesHolders : Program → Type 0
-SparesHolders program =
-    let p = program_form program in
-    may_be_frugal p ≡ true → makes_parts p ≡ true → text_frees_inside (reaches_holder (implicit_of p) p.types) p ≡ []
-
--- That is told exactly: of each component of the objects of each type.
-abbrev pub HoldersAreTold : Type 0
-HoldersAreTold =
-    (implicit : Implicit) (types : List TypeForm) (t : TypeNo)
-    → (reaches_holder implicit types t.0 ≡ false)
-    ↔ ((holder c : ℕ) → HoldsNames types holder c t → implicit.end_reaches t.0 holder ≡ false)
-
 -- A program has passed all checks.
 pub record IsChecked (program : Program) : Type 0 where
   -- each number is that of something there, and each form has the types that it wants
@@ -132,9 +98,6 @@ pub record IsChecked (program : Program) : Type 0 where
   pub spares_adjusted : SparesAdjusted (program_form program)
   -- no exception comes out where a record is finalized, in a program in which a Finalize may be called, or adjusted, in one in which an Adjust may be (7.6.1)
   pub lets_nothing_out : LetsNothingOut (program_form program)
-  -- where a Finalize may touch storage, and something creates an object with controlled parts, no component of a record frees an object whose end reaches an
-  -- access type whose objects have such a component (7.6.1)
-  pub spares_holders : SparesHolders program
   -- the flow of values breaks no rule
   pub obeys : ObeysRules program
 
@@ -244,7 +207,6 @@ pub record Breaks (rule : Rule) (program : Program) : Type 0 where
   pub spares_newer : SparesNewer program
   pub spares_adjusted : SparesAdjusted (program_form program)
   pub lets_nothing_out : LetsNothingOut (program_form program)
-  pub spares_holders : SparesHolders program
   pub spot : Spot
   pub faults_there : program_flow program ≡ faults spot rule
 
@@ -258,7 +220,6 @@ pub record IsIllFormed (program : Program) : Type 0 where
   pub spares_newer : SparesNewer program
   pub spares_adjusted : SparesAdjusted (program_form program)
   pub lets_nothing_out : LetsNothingOut (program_form program)
-  pub spares_holders : SparesHolders program
   pub obeys : ObeysRules program
 
 -- The program has passed all other checks, but its collections do not nest.
@@ -271,7 +232,6 @@ pub record IsIllNested (program : Program) : Type 0 where
   pub spares_newer : SparesNewer program
   pub spares_adjusted : SparesAdjusted (program_form program)
   pub lets_nothing_out : LetsNothingOut (program_form program)
-  pub spares_holders : SparesHolders program
   pub obeys : ObeysRules program
 
 -- The program has passed all other checks, but it frees by an instance for another access type.
@@ -284,7 +244,6 @@ pub record FreesOthers (program : Program) : Type 0 where
   pub spares_newer : SparesNewer program
   pub spares_adjusted : SparesAdjusted (program_form program)
   pub lets_nothing_out : LetsNothingOut (program_form program)
-  pub spares_holders : SparesHolders program
   pub obeys : ObeysRules program
 
 -- The program has passed all other checks, but something that overrides an operation of a controlled type is not in use.
@@ -297,7 +256,6 @@ pub record NotInUse (program : Program) : Type 0 where
   pub spares_newer : SparesNewer program
   pub spares_adjusted : SparesAdjusted (program_form program)
   pub lets_nothing_out : LetsNothingOut (program_form program)
-  pub spares_holders : SparesHolders program
   pub obeys : ObeysRules program
 
 -- The program has passed all other checks, but an exception may come out where a record is finalized, and a Finalize may be called, or where one is adjusted,
@@ -311,7 +269,6 @@ pub record LetsSomeOut (program : Program) : Type 0 where
   pub spares_newer : SparesNewer program
   pub spares_adjusted : SparesAdjusted (program_form program)
   pub lets_some_out : LetsNothingOut (program_form program) → ⊥
-  pub spares_holders : SparesHolders program
   pub obeys : ObeysRules program
 
 -- The program has passed all other checks, but where an object ends, something is freed or followed whose collection is not created before that of its own.
@@ -324,7 +281,6 @@ pub record UsesNewer (program : Program) : Type 0 where
   pub uses_newer : SparesNewer program → ⊥
   pub spares_adjusted : SparesAdjusted (program_form program)
   pub lets_nothing_out : LetsNothingOut (program_form program)
-  pub spares_holders : SparesHolders program
   pub obeys : ObeysRules program
 
 -- The program has passed all other checks, but where an object is adjusted, a value of its own access type may be followed.
@@ -337,7 +293,6 @@ pub record FollowsAdjusted (program : Program) : Type 0 where
   pub spares_newer : SparesNewer program
   pub follows_adjusted : SparesAdjusted (program_form program) → ⊥
   pub lets_nothing_out : LetsNothingOut (program_form program)
-  pub spares_holders : SparesHolders program
   pub obeys : ObeysRules program
 
 -- The program is well formed, whatever overrides an operation of a controlled type is in use, its collections nest, it frees by the instances for what it

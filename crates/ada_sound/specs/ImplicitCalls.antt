@@ -19,7 +19,7 @@ use Rattle.ada_flow.specs.declared.rule.Region.TheVariants.{Whole}
 use Rattle.ada_flow.specs.declared.rule.Rule.TheVariants.{UnsafePath}
 use Rattle.ada_flow.specs.Flow.{Holds, Outcome, faults, goes, hold_at, variable_access, nothing_gone, Around, stmt_flow, declaration_flow, first_holds}
 use Rattle.ada_flow.specs.Tracking.{no_tracks}
-use Rattle.ada_flow.specs.Parts.{HasPart}
+use Rattle.ada_program.specs.Parts.{HasPart}
 use Rattle.ada_sound.specs.Callees.{IsFollowed, FollowsTo}
 use Rattle.ada_sound.specs.Examples.{example_spot, example_path}
 use Rattle.ada_sound.specs.RecordExamples.{object_path}

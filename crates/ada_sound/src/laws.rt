@@ -118,12 +118,6 @@ pub fn rules_imply_safety()
     ensures { (program : Program) → IsChecked program → Safe program }
 {}
 
-/// Where a component of a record frees an object, the premise on holders, the objects in which components lie, asks exactly this of
-/// its access type (7.6.1): the end of the object follows and frees no value of a type whose objects have a component of the former.
-pub fn holders_are_told()
-    ensures { always.HoldersAreTold }
-{}
-
 /// The rules let Free through only where the variable owns what it names, or holds null (13.11.2); it owns nothing
 /// after.
 pub fn only_owners_are_freed()

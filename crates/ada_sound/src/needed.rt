@@ -52,18 +52,18 @@ ghost use Rattle.ada_sound.specs.CrossingExample as crossing_example;
 /// body changes a record that is gone, or a component that is gone is to get its value back. And no component that owns
 /// what it names is handed over: else it names what a procedure frees that an exception leaves, and the handler follows it.
 ///
-/// So are the other premises, but for `SparesHolders`: no program here shows it of that by itself. A variable relies
+/// So are the other premises. A variable relies
 /// on values of its own access type alone: of a program that is not well formed, one of another type names what goes with a block.
 /// And components name what lasts as long as their objects: of a program whose collections do not nest, an object
 /// outlasts what its component names. And a Free is by the instance for the access type of what it frees (13.11.2): of
 /// a program with two declared pools where it is by that for another access type, the words of an object are to go
 /// back to the pool of the other one. And where an object ends, none of its own access type is used (`SparesOwn`): the
 /// objects of a collection are finalized in any order (7.6.1), so a Finalize that frees what a component of its object
-/// names may find it gone, and finalizes it twice; that breaks S8, and not `SparesOwn` alone, but `SparesHolders`, too.
+/// names may find it gone, and finalizes it twice; that breaks S8.
 /// And what is freed or followed there is in collections that were created before its own (`SparesNewer`): a newer
 /// collection goes before an older one, so a Finalize that frees what a component of its object names there frees what is
-/// gone, and one that only follows it comes to an object that is gone; both break S8, and keep `SparesOwn` and
-/// `SparesHolders`. And where an object is adjusted, no value of its own access type is followed (`SparesAdjusted`): an Adjust
+/// gone, and one that only follows it comes to an object that is gone; both break S8, and keep `SparesOwn`.
+/// And where an object is adjusted, no value of its own access type is followed (`SparesAdjusted`): an Adjust
 /// that follows a component to the very object that is adjusted frees there what the copy shares with the record that was
 /// copied, and behind the assignment that is followed by way of this record; that breaks S8, and nothing else. And operations
 /// are in use: a Finalize that assigns to its formal parameter as a whole finalizes that twice.

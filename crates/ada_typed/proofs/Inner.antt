@@ -36,7 +36,7 @@ use Rattle.ada_typed.proofs.Operators.{and_left, and_right}
 use Rattle.ada_typed.proofs.Lying.{Lies, whole, placed, inner, PartsAreRecords}
 use Rattle.ada_typed.proofs.Parts.{shown_number, shapes_shown, known_firsts, known_number, parts_counted, parts_shown}
 use Rattle.ada_typed.proofs.Records.{inside_record}
-use Rattle.ada_typed.proofs.Walking.{walks_to, start_numbered}
+use Rattle.ada_typed.proofs.Walking.{walks_to, start_numbered, part_by_walk}
 
 -- The shape of a number among the first ones is that of its type.
 shape_at : (types : List TypeDefinition) (count n : ℕ) → n < count → shape_of (shapes_up_to types count) n ≡ shape_by types (shapes_up_to types n) (parts_by (type_numbered types n))
@@ -400,6 +400,8 @@ module _ (program : Program) (well : IsWellFormed (program_form program)) where
               let far = slice_get_within (part_firsts types (number_reached types access)) (part + m) (l.first + met.0) (l.begins m met.0 met.1) in
               omega (arith, far, all)),
           λ some. subst (λ (m : ℕ). WalksTo forms (named_in (slice_get forms access)) (Some t) m part) begun
+              (subst (λ (v : ℕ). WalksTo forms (named_in (slice_get forms access)) (Some v) l.first part) same l.walk),
+          part_by_walk forms (named_in (slice_get forms access)) (Some t) l.first part
               (subst (λ (v : ℕ). WalksTo forms (named_in (slice_get forms access)) (Some v) l.first part) same l.walk),
         ),
       )

@@ -19,7 +19,7 @@ use Rattle.ada_meaning.specs.State.{Activation}
 use Rattle.ada_meaning.specs.Step.{operands_of, with_operands, in_front, record_in}
 use Rattle.ada_typed.proofs.Values.{OperandKind, of_kind, is_record_kind, AreComputed, IsActive}
 use Rattle.ada_typed.proofs.Operators.{and_left, and_right}
-use Rattle.ada_typed.proofs.Walking.{walks_to}
+use Rattle.ada_typed.proofs.Walking.{walks_to, part_of_part}
 use Rattle.ada_typed.proofs.Control.{onto}
 
 both : (a b : Bool) → a ≡ true → b ≡ true → (a && b) ≡ true
@@ -184,6 +184,7 @@ inside_lies types object middle t first first_inside part part_inside outer inne
   inside_parts (parts_named types t) (parts_named types middle) (parts_named types object) part part_inside outer.0 inner.0,
   λ some. walks_to types object middle t first part first_inside part_inside
       (outer.1 (some_around (parts_named types t) part_inside (parts_named types middle) some inner.0)) (inner.1 some),
+  part_of_part types object middle t outer.2 inner.2,
 )
 
 -- So they are among the object's, where there are some.

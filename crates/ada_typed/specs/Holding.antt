@@ -6,6 +6,7 @@ use Rattle.ada_program.specs.declared.program.ComponentKind.{ComponentKind}
 use Rattle.ada_program.specs.declared.program.VariableKind.{VariableKind}
 use Rattle.ada_program.specs.declared.program.VariableKind.TheVariants as variable
 use Rattle.ada_program.specs.declared.program.Program.{Program}
+use Rattle.ada_program.specs.Parts.{HasPart}
 use Rattle.ada_program.specs.ProgramForm.{TypeForm, ProgramForm, program_form, seen_in}
 use Rattle.ada_program.specs.Walks.{Walks}
 use Rattle.ada_program.specs.WellFormed.{IsWellFormed, is_access, reached_components, has_record_at, has_parts_from, object_named, parts_named, held_kind, variable_kind}
@@ -60,11 +61,18 @@ WalksTo types None u first part = ⊥
 WalksTo types (Some t) None first part = ⊥
 WalksTo types (Some t) (Some u) first part = Walks types t first part u
 
--- The controlled parts of a record lie in an object, behind so many elementary components and controlled parts (7.6): they are parts of the object, and where
--- there are some, the record is found there by walking into declared components.
+-- Objects of a type have a part of a record type, however deep (3.8), where these are types.
+abbrev pub HasPartOf : List TypeForm → (object record_type : Option ℕ) → Type 0
+HasPartOf types None t = ⊥
+HasPartOf types (Some whole) None = ⊥
+HasPartOf types (Some whole) (Some t) = HasPart types t whole
+
+-- The parts of a record lie in an object, behind so many elementary components and controlled parts (7.6): the controlled ones are parts of the object, and
+-- where there are some, the record is found there by walking into declared components. And the objects of the object's type have a part of the record's (3.8).
 abbrev pub PartsLie : List TypeForm → (object record_type : Option ℕ) → (first part : ℕ) → Type 0
 PartsLie types object t first part =
     (has_parts_from (parts_named types t) part (parts_named types object) ≡ true) × (0 < parts_named types t → WalksTo types object t first part)
+    × HasPartOf types object t
 
 -- A record of the type that is known by an object's type lies in the object of this name, where a place says (6.2): its components are components of the
 -- object, and so it is with its controlled parts (7.6).

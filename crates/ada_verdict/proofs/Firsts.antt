@@ -22,9 +22,6 @@ use Rattle.ada_operations.specs.declared.rule.OperationRule.{OperationRule}
 use Rattle.ada_operations.specs.declared.rule.OperationRule.TheVariants.{FinalizeOrder, MayPropagate, FinalizeAllocates}
 use Rattle.ada_operations.specs.Operations.{HasFault, IsFirstFault as IsFirstOf, rule_number}
 use Rattle.ada_quiet.specs.First.{HasUnused, IsFirst as IsFirstPlace}
-use Rattle.ada_quiet.specs.Idle.{makes_parts}
-use Rattle.ada_quiet.specs.InUse.{may_be_frugal}
-use Rattle.ada_quiet.specs.Releases.{first_spot, text_frees_inside}
 use Rattle.ada_front.specs.Front.{front_of}
 use Rattle.ada_resolve.specs.declared.fault.NameFault.{NameFault}
 use Rattle.ada_resolve.specs.declared.fault.NameFault.TheVariants as names
@@ -35,13 +32,12 @@ use Rattle.ada_flow.specs.declared.fault.FlowFault.{FlowFault}
 use Rattle.ada_flow.specs.declared.fault.FlowFault.TheVariants as flow
 use Rattle.ada_effects.specs.Effects.{Implicit}
 use Rattle.ada_text.specs.Exactly.{Exactly}
-use Rattle.ada_sound.specs.Always.{SparesHolders, reaches_holder}
 use Rattle.ada_verdict.specs.declared.fault.RoundFault.TheVariants as round
 use Rattle.ada_verdict.specs.declared.fault.UnusedFault.{UnusedFault}
 use Rattle.ada_verdict.specs.declared.fault.UnusedFault.TheVariants as unused
 use Rattle.ada_verdict.specs.declared.fault.Verdict.{Verdict}
 use Rattle.ada_verdict.specs.declared.fault.Verdict.TheVariants as verdict
-use Rattle.ada_verdict.specs.First.{IsSourceOf, IsProgramOf, IsAccepted, IsFirstIn, IsFirst, IsFirstUnused, IsFreedFirst, RefusesRightly, HasFaultOrProgram}
+use Rattle.ada_verdict.specs.First.{IsSourceOf, IsProgramOf, IsAccepted, IsFirstIn, IsFirst, IsFirstUnused, RefusesRightly, HasFaultOrProgram}
 use Rattle.ada_verdict.specs.declared.rules.TheConstants as rules
 use Rattle.ada_verdict.specs.Refusal.{Told, told, rule_text, refusal_of}
 
@@ -193,30 +189,7 @@ no_early tokens text tree syntax source (verdict.Flow f) early b p a = absurd (c
 unused_obeys : (p : Program) (f : UnusedFault) → IsFirstUnused p f → ObeysRules p
 unused_obeys p (unused.Operation spot) first = first.0
 unused_obeys p (unused.Circle spot) first = first.0
-unused_obeys p (unused.Holder spot) first = first.0
 unused_obeys p unused.NoMemory first = first
-
--- In a program of this form no component of a record frees an object whose end reaches a type whose objects have such a component.
-abbrev SparesHoldersIn : ProgramForm → Type 0
-SparesHoldersIn p = may_be_frugal p ≡ true → makes_parts p ≡ true → text_frees_inside (reaches_holder (implicit_of p) p.types) p ≡ []
-
--- Where holders are spared, no component is freed first that does not spare one.
-no_freed : {X : Type 0} (p q : Program) (spot : Spot) → program_form p ≡ program_form q → IsFreedFirst (program_form p) spot → SparesHolders q → X
-no_freed p q spot same freed spares =
-    let back : SparesHoldersIn (program_form p) = subst SparesHoldersIn (sym same) spares in
-    let none = ap first_spot (back freed.0 freed.1) in
-    absurd (cc (sym none ∙ freed.2))
-
--- What is told of a place, if there is one.
-abbrev told_of : List ℕ → Option Spot → Option Told
-told_of text None = None
-told_of text (Some spot) = told spot text
-
--- One component is freed first.
-one_freed : (p q : ProgramForm) (spot other : Spot) → p ≡ q → IsFreedFirst p spot → IsFreedFirst q other → (text : List ℕ) → told spot text ≡ told other text
-one_freed p q spot other same a b text =
-    let back = subst (λ (form : ProgramForm). IsFreedFirst form other) (sym same) b in
-    ap (told_of text) (sym a.2 ∙ back.2)
 
 -- A later phase begins with a program.
 late_program : (source : List ℕ) (v : Verdict) → is_late v ≡ true → IsFirst source v → (p : Program) × IsProgramOf source p
@@ -314,8 +287,6 @@ no_first tokens text tree syntax source (verdict.Unused (unused.Operation spot))
     no_place HasUnused (program_form b.0) (program_form p) spot (one_program tokens tree source b.0 p b.1 a.0) b.2.2.1 a.1.3.0
 no_first tokens text tree syntax source (verdict.Unused (unused.Circle spot)) b p a =
     no_place HasCircle (program_form b.0) (program_form p) spot (one_program tokens tree source b.0 p b.1 a.0) b.2.2.2 a.1.3.1
-no_first tokens text tree syntax source (verdict.Unused (unused.Holder spot)) b p a =
-    no_freed b.0 p spot (one_program tokens tree source b.0 p b.1 a.0) b.2.2.2.1 a.1.3.2
 no_first tokens text tree syntax source (verdict.Unused unused.NoMemory) b p a = refl
 no_first tokens text tree syntax source (verdict.Flow (flow.Broken spot rule)) b p a =
     obeys_none p spot rule (same_judgement p b.0 (one_program tokens tree source p b.0 a.0 b.1) ∙ b.2.2) a.1.2
@@ -421,23 +392,12 @@ late_one tokens tree source (verdict.Unused f) (verdict.Operations (operations.B
     no_broken (program_form b.0) (program_form a.0) spot rule (one_program tokens tree source b.0 a.0 b.1 a.1) b.2.1 a.2.1
 late_one tokens tree source (verdict.Unused (unused.Operation spot)) (verdict.Unused (unused.Operation other)) x y a b n m =
     one_place HasUnused (program_form a.0) (program_form b.0) spot other (one_program tokens tree source a.0 b.0 a.1 b.1) a.2.2.1 b.2.2.1 rules.NOT_IN_PROFILE.now
-late_one tokens tree source (verdict.Unused (unused.Operation spot)) (verdict.Unused (unused.Holder other)) x y a b n m =
-    no_place HasUnused (program_form a.0) (program_form b.0) spot (one_program tokens tree source a.0 b.0 a.1 b.1) a.2.2.1 b.2.2.1
 late_one tokens tree source (verdict.Unused (unused.Operation spot)) (verdict.Unused (unused.Circle other)) x y a b n m =
     no_place HasUnused (program_form a.0) (program_form b.0) spot (one_program tokens tree source a.0 b.0 a.1 b.1) a.2.2.1 b.2.2.1
-late_one tokens tree source (verdict.Unused (unused.Holder other)) (verdict.Unused (unused.Operation spot)) x y a b n m =
-    no_place HasUnused (program_form b.0) (program_form a.0) spot (one_program tokens tree source b.0 a.0 b.1 a.1) b.2.2.1 a.2.2.1
 late_one tokens tree source (verdict.Unused (unused.Circle other)) (verdict.Unused (unused.Operation spot)) x y a b n m =
     no_place HasUnused (program_form b.0) (program_form a.0) spot (one_program tokens tree source b.0 a.0 b.1 a.1) b.2.2.1 a.2.2.1
 late_one tokens tree source (verdict.Unused (unused.Circle spot)) (verdict.Unused (unused.Circle other)) x y a b n m =
     one_place HasCircle (program_form a.0) (program_form b.0) spot other (one_program tokens tree source a.0 b.0 a.1 b.1) a.2.2.2 b.2.2.2
-    rules.NOT_IN_PROFILE.now
-late_one tokens tree source (verdict.Unused (unused.Circle spot)) (verdict.Unused (unused.Holder other)) x y a b n m =
-    no_place HasCircle (program_form a.0) (program_form b.0) spot (one_program tokens tree source a.0 b.0 a.1 b.1) a.2.2.2 b.2.2.2.0
-late_one tokens tree source (verdict.Unused (unused.Holder other)) (verdict.Unused (unused.Circle spot)) x y a b n m =
-    no_place HasCircle (program_form b.0) (program_form a.0) spot (one_program tokens tree source b.0 a.0 b.1 a.1) b.2.2.2 a.2.2.2.0
-late_one tokens tree source (verdict.Unused (unused.Holder spot)) (verdict.Unused (unused.Holder other)) x y a b n m =
-    one_freed (program_form a.0) (program_form b.0) spot other (one_program tokens tree source a.0 b.0 a.1 b.1) a.2.2.2.1 b.2.2.2.1
     rules.NOT_IN_PROFILE.now
 late_one tokens tree source (verdict.Unused f) (verdict.Flow (flow.Broken other rule)) x y a b n m =
     obeys_none a.0 other rule (same_judgement a.0 b.0 (one_program tokens tree source a.0 b.0 a.1 b.1) ∙ b.2.2) (unused_obeys a.0 f a.2.2)

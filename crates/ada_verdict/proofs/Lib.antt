@@ -4,5 +4,3 @@ pub mod Firsts
 pub mod Before
 -- what ends and adjustments spare
 pub mod Spares
--- the holders that ends reach
-pub mod SparedHolders

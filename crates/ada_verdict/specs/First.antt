@@ -10,14 +10,10 @@ use Rattle.ada_parser.specs.FirstFault.{IsFirstFault as IsFirstSyntaxFault}
 use Rattle.ada_program.specs.declared.program.Program.{Program}
 use Rattle.ada_program.specs.ProgramForm.{ProgramForm, program_form}
 use Rattle.ada_circles.specs.Circles.{IsFirstCircle}
-use Rattle.ada_deeds.specs.Implicit.{implicit_of}
 use Rattle.ada_operations.specs.declared.fault.OperationFault.{OperationFault}
 use Rattle.ada_operations.specs.declared.fault.OperationFault.TheVariants as operations
 use Rattle.ada_operations.specs.Operations.{IsFirstFault as IsFirstOf}
 use Rattle.ada_quiet.specs.First.{IsFirstUnused as IsFirstNotInUse}
-use Rattle.ada_quiet.specs.Idle.{makes_parts}
-use Rattle.ada_quiet.specs.InUse.{may_be_frugal}
-use Rattle.ada_quiet.specs.Releases.{first_spot, text_frees_inside}
 use Rattle.ada_front.specs.Front.{front_of}
 use Rattle.ada_resolve.specs.declared.fault.NameFault.{NameFault}
 use Rattle.ada_resolve.specs.declared.fault.NameFault.TheVariants as names
@@ -27,7 +23,6 @@ use Rattle.ada_resolve.specs.View.{Faults}
 use Rattle.ada_rounds.specs.FirstRound.{IsFirstRound}
 use Rattle.ada_flow.specs.Flow.{ObeysRules}
 use Rattle.ada_flow.specs.Told.{IsFirstFault as IsFirstFlowFault}
-use Rattle.ada_sound.specs.Always.{SparesHolders, reaches_holder}
 use Rattle.ada_verdict.specs.declared.fault.RoundFault.{RoundFault}
 use Rattle.ada_verdict.specs.declared.fault.RoundFault.TheVariants as round
 use Rattle.ada_verdict.specs.declared.fault.UnusedFault.{UnusedFault}
@@ -61,11 +56,9 @@ abbrev pub NoneLeadsBack : Program → Type 0
 NoneLeadsBack program = IsFirstCircle (program_form program) None
 
 -- Each operation is in use: Initialize is plain or, where it may be, frugal, Adjust is quiet, or, of a type that declares a component of an access type, simple,
--- where it may track, and Finalize is quiet or, where it may be, frugal. What the declarations of bodies create leads back to none of them. And where an
--- operation may touch storage, and something creates an object with controlled parts, no component of a record frees an object whose end reaches an access type
--- whose objects have such a component.
+-- where it may track, and Finalize is quiet or, where it may be, frugal. And what the declarations of bodies create leads back to none of them.
 abbrev pub OperationsAreInUse : Program → Type 0
-OperationsAreInUse program = IsFirstNotInUse (program_form program) None × NoneLeadsBack program × SparesHolders program
+OperationsAreInUse program = IsFirstNotInUse (program_form program) None × NoneLeadsBack program
 
 -- Nothing is wrong with a program, by the phases behind names: no Initialize and no Adjust calls itself, its operations obey their rules, it obeys the rules of
 -- flow, where what operations may do that are called implicitly counts, and its operations are in use.
@@ -86,31 +79,16 @@ abbrev pub IsFirstBroken : Program → OperationFault → Type 0
 IsFirstBroken program (operations.Broken spot rule) = IsFirstOf (program_form program) (Some (spot, rule))
 IsFirstBroken program operations.NoMemory = Unit {0}
 
--- Where the first component of a record is freed whose object's end may reach a holder of such a component, in a program of this form.
-abbrev pub IsFreedFirst : ProgramForm → Spot → Type 0
-IsFreedFirst p spot =
-    (may_be_frugal p ≡ true) × (makes_parts p ≡ true) × (first_spot (text_frees_inside (reaches_holder (implicit_of p) p.types) p) ≡ Some spot)
-
--- What an end does not spare, first in a program: a holder of a component.
-abbrev pub IsFirstUnspared : Program → UnusedFault → Type 0
-IsFirstUnspared program (unused.Operation spot) = ⊥
-IsFirstUnspared program (unused.Circle spot) = ⊥
-IsFirstUnspared program (unused.Holder spot) = IsFreedFirst (program_form program) spot
-IsFirstUnspared program unused.NoMemory = Unit {0}
-
--- What is wrong first, where each operation is in use by its own text: a body that leads back to itself; or, where there is none, what an end does not spare.
+-- What is wrong first, where each operation is in use by its own text: a body that leads back to itself.
 abbrev pub IsFirstBehindUse : Program → UnusedFault → Type 0
 IsFirstBehindUse program (unused.Operation spot) = ⊥
 IsFirstBehindUse program (unused.Circle spot) = IsFirstCircle (program_form program) (Some spot)
-IsFirstBehindUse program (unused.Holder spot) = NoneLeadsBack program × IsFirstUnspared program (unused.Holder spot)
 IsFirstBehindUse program unused.NoMemory = Unit {0}
 
--- The first operation that is not in use, where the rules of flow are obeyed; or each is in use, but a body leads back to itself, or an end may not spare a holder
--- of a component that is freed.
+-- The first operation that is not in use, where the rules of flow are obeyed; or each is in use, but a body leads back to itself.
 abbrev pub IsFirstUnused : Program → UnusedFault → Type 0
 IsFirstUnused program (unused.Operation spot) = ObeysRules program × IsFirstNotInUse (program_form program) (Some spot)
 IsFirstUnused program (unused.Circle spot) = ObeysRules program × IsFirstNotInUse (program_form program) None × IsFirstBehindUse program (unused.Circle spot)
-IsFirstUnused program (unused.Holder spot) = ObeysRules program × IsFirstNotInUse (program_form program) None × IsFirstBehindUse program (unused.Holder spot)
 IsFirstUnused program unused.NoMemory = ObeysRules program
 
 -- The first Initialize or Adjust that calls itself by what stands before a fault, or that there is none, where what stands before it is a program (7.6).

@@ -77,11 +77,10 @@ abbrev pub operation_told : OperationFault → Option Told
 operation_told (operations.Broken spot broken) = told spot (operation_text broken)
 operation_told operations.NoMemory = None
 
--- An operation that is not in use, a body that leads back to itself, or a component that is freed whose object's end may reach another such one.
+-- An operation that is not in use, or a body that leads back to itself.
 abbrev pub unused_told : UnusedFault → Option Told
 unused_told (unused.Operation spot) = told spot rules.NOT_IN_PROFILE.now
 unused_told (unused.Circle spot) = told spot rules.NOT_IN_PROFILE.now
-unused_told (unused.Holder spot) = told spot rules.NOT_IN_PROFILE.now
 unused_told unused.NoMemory = None
 
 -- The rules of the flow of values.

@@ -12,13 +12,12 @@ ghost use Rattle.ada_program.specs.Nested.{CollectionsNest};
 ghost use Rattle.ada_program.specs.ProgramForm.{body_forms, program_form};
 ghost use Rattle.ada_program.specs.WellFormed.{IsWellFormed};
 ghost use Rattle.ada_quiet.specs.InUse.{operations_are_in_use};
-ghost use Rattle.ada_sound.specs.Always.{IsChecked, SparesHolders};
+ghost use Rattle.ada_sound.specs.Always.{IsChecked};
 ghost use Rattle.ada_tree.specs.StatementView.{unit_of};
-ghost use Rattle.ada_verdict.specs.First.{HasNoFault, IsAccepted, IsFirst, IsFirstBehindUse, IsFirstCircling, IsFirstIn, IsFirstUnspared, IsFirstUnused, IsProgramOf, IsSourceOf, NoneCallsItself, NoneLeadsBack, OperationsAreInUse, RefusesRightly};
+ghost use Rattle.ada_verdict.specs.First.{HasNoFault, IsAccepted, IsFirst, IsFirstBehindUse, IsFirstCircling, IsFirstIn, IsFirstUnused, IsProgramOf, IsSourceOf, NoneCallsItself, NoneLeadsBack, OperationsAreInUse, RefusesRightly};
 
 use crate::early::first_told;
 use crate::fault::{RoundFault, UnusedFault, Verdict};
-use crate::holders::reaching_holders;
 use crate::laws::accepted_sources_have_no_fault;
 use ada_circles::first_circle;
 use ada_effects::Implicit;
@@ -29,7 +28,7 @@ use ada_operations::laws::{
 use ada_operations::operations;
 use ada_parser::parse;
 use ada_program::Program;
-use ada_quiet::{first_freed_inside, first_unused, makes_parts, may_be_frugal};
+use ada_quiet::first_unused;
 use ada_resolve::resolve;
 use ada_rounds::first_round;
 use ada_settled::laws::no_circle_settles;
@@ -125,13 +124,12 @@ fn judge(alloc: Global, program: &Program) -> Result<(), Verdict>
     ensures fine { IfOk result (λ _. HasNoFault program.now) }
     ensures in_use { IfOk result (λ _. operations_are_in_use (program_form program.now) ≡ true) }
     ensures back { IfOk result (λ _. NoneLeadsBack program.now) }
-    ensures holders { IfOk result (λ _. SparesHolders program.now) }
     ensures refused { IfErr result (λ verdict. IsFirstIn program.now verdict) }
 {
     shun_rounds(alloc, program)?;
     let implicit = operations(alloc, program)?;
     obey(alloc, program, &implicit)?;
-    use_all(alloc, program, &implicit)?;
+    use_all(alloc, program)?;
     Ok(())
 }
 
@@ -162,57 +160,33 @@ fn obey(alloc: Global, program: &Program, implicit: &Implicit) -> Result<(), Flo
 }
 
 /// Each operation is in use: Initialize is plain or, where it may be, frugal, Adjust is quiet, or, of a type that declares a component
-/// of an access type, simple, where it may track, and Finalize is quiet or, where it may be, frugal. What the declarations of bodies create
-/// leads back to none of them. And where an operation may touch storage, and something creates an object with controlled parts, no component
-/// of a record frees an object whose end reaches an access type whose objects have such a component.
+/// of an access type, simple, where it may track, and Finalize is quiet or, where it may be, frugal. And what the declarations of bodies
+/// create leads back to none of them.
 ///
 /// # Errors
-/// The first one that is not, or the first body that leads back to itself, or the first such component, or want of memory.
-fn use_all(alloc: Global, program: &Program, implicit: &Implicit) -> Result<(), UnusedFault>
-    requires obeys { ObeysRules program.now }
-    requires known { implicit_in implicit.now ≡ implicit_of (program_form program.now) }
+/// The first one that is not, or the first body that leads back to itself, or want of memory.
+fn use_all(alloc: Global, program: &Program) -> Result<(), UnusedFault>
+    requires { ObeysRules program.now }
     ensures used { IfOk result (λ _. OperationsAreInUse program.now) }
     ensures in_use { IfOk result (λ _. operations_are_in_use (program_form program.now) ≡ true) }
     ensures refused { IfErr result (λ fault. IsFirstUnused program.now fault) }
 {
     match first_unused(alloc, program)? {
         Some(spot) => Err(UnusedFault::Operation(spot)),
-        None => shun_circles(alloc, program, implicit),
+        None => shun_circles(alloc, program),
     }
 }
 
-/// No body leads back to itself by what its own declarations create, and ends spare holders.
+/// No body leads back to itself by what its own declarations create.
 ///
 /// # Errors
-/// The first body that does, or where the first component is freed whose end does not spare one, or want of memory.
-fn shun_circles(alloc: Global, program: &Program, implicit: &Implicit) -> Result<(), UnusedFault>
-    requires { implicit_in implicit.now ≡ implicit_of (program_form program.now) }
+/// The first body that does, or want of memory.
+fn shun_circles(alloc: Global, program: &Program) -> Result<(), UnusedFault>
     ensures back { IfOk result (λ _. NoneLeadsBack program.now) }
-    ensures holders { IfOk result (λ _. SparesHolders program.now) }
     ensures refused { IfErr result (λ fault. IsFirstBehindUse program.now fault) }
 {
     match first_circle(alloc, program)? {
         Some(spot) => Err(UnusedFault::Circle(spot)),
-        None => spare_holders(alloc, program, implicit),
-    }
-}
-
-/// Where operations may touch storage, and something creates an object with controlled parts, ends spare the holders of the components that
-/// are freed.
-///
-/// # Errors
-/// Where the first component is freed whose end does not, or want of memory.
-fn spare_holders(alloc: Global, program: &Program, implicit: &Implicit) -> Result<(), UnusedFault>
-    requires { implicit_in implicit.now ≡ implicit_of (program_form program.now) }
-    ensures holders { IfOk result (λ _. SparesHolders program.now) }
-    ensures refused { IfErr result (λ fault. IsFirstUnspared program.now fault) }
-{
-    if !makes_parts(program) || !may_be_frugal(alloc, program)? {
-        return Ok(());
-    }
-    let asked = reaching_holders(alloc, &program.types, implicit)?;
-    match first_freed_inside(program, &asked) {
-        Some(spot) => Err(UnusedFault::Holder(spot)),
         None => Ok(()),
     }
 }

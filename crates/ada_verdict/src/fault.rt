@@ -42,9 +42,6 @@ pub enum UnusedFault {
     /// Each operation is in use, but a body leads back to itself by what its own declarations create (7.6, 3.3.1): it would be called inside
     /// itself again and again. It begins here.
     Circle(Spot),
-    /// Each operation is in use, but a Finalize may touch storage, something creates an object with controlled parts, and a component of a
-    /// record is freed here, whose object's end may reach an allocated object in which such a component lies (13.11.2).
-    Holder(Spot),
     NoMemory,
 }
 

@@ -12,7 +12,6 @@
 mod accepted;
 mod early;
 mod fault;
-mod holders;
 pub mod laws;
 mod refusal;
 pub mod rules;

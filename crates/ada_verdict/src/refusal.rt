@@ -95,14 +95,13 @@ fn operation_refusal(fault: &OperationFault) -> Option<Refusal>
     }
 }
 
-/// The refusal for an operation that is not in use.
+/// The refusal for an operation that is not in use, or a body that leads back to itself.
 fn unused_refusal(fault: &UnusedFault) -> Option<Refusal>
     ensures { shown_if result ≡ printed.unused_told fault.now }
 {
     match fault {
         UnusedFault::Operation(spot) => refused(*spot, rules::NOT_IN_PROFILE),
         UnusedFault::Circle(spot) => refused(*spot, rules::NOT_IN_PROFILE),
-        UnusedFault::Holder(spot) => refused(*spot, rules::NOT_IN_PROFILE),
         UnusedFault::NoMemory => None,
     }
 }

@@ -18,6 +18,7 @@ use Rattle.ada_program.specs.declared.program.ScalarType.TheVariants.{Integer, B
 use Rattle.ada_program.specs.Form.{PathForm, ActualForm, in_value, in_null, in_access, in_record, in_out_path, in_out_access, in_out_component, in_out_record, RecordPathForm, ExpressionForm, integer, boolean, reads, is_null, applied_to, chained, LinksForm, no_more_links, a_link, ItemForm, null_item, item_of_path, item_of_value, item_of_record, RightForm, nothing, value_of, allocates, allocates_default, computes, StmtForm, skips, assigns, assigns_record, frees, gets, writes, writes_text, chooses, repeats, counts, exits, calls, returns, raises, encloses, StmtsForm, no_stmts, a_stmt, BranchesForm, otherwise, a_branch, HandlersForm, no_handlers, a_handler, DeclarationForm, creates_pool, collects, declares, declares_record}
 use Rattle.ada_program.specs.ProgramForm.{TypeForm, record_of, access_to, object_of, VariableForm}
 use Rattle.ada_program.specs.WellFormed as fits
+use Rattle.ada_resolve.proofs.WellFormed.Containing.{is_part_stays}
 use Rattle.ada_resolve.proofs.WellFormed.Forms.{bare, bare_final, forms, longer_types, same_at, same_final}
 use Rattle.ada_resolve.proofs.WellFormed.Laid.{AreRecordsLaid}
 use Rattle.ada_resolve.proofs.WellFormed.Numbered.{final_stays, said_bare}
@@ -247,22 +248,27 @@ module _ (types more : List TypeForm) (variables others : List VariableForm) (ts
             let leads = fits.has_record_at (fits.object_components types a) p.first (fits.record_components types p.record_type) in
             let own : Bool = fits.has_parts_at types p.record_type (fits.object_named types a) p.first p.part in
             let led = first_part leads own h in
-            let count = count_stays p.record_type (record_there (fits.object_components types a) p.first (fits.record_components types p.record_type) led) in
+            let is = record_there (fits.object_components types a) p.first (fits.record_components types p.record_type) led in
+            let count = count_stays p.record_type is in
             let object = object_there (fits.object_components types a) p.first (fits.record_components types p.record_type) led in
             let within = named_count_stays a object in
             let same = object_same a object in
             let among : Bool = fits.has_parts_from (fits.part_count types p.record_type) p.part (fits.parts_named types (fits.object_named types a)) in
             let found : Bool = eqb (fits.part_count types p.record_type) 0 || fits.is_found types (length types) p.record_type (fits.place_from (fits.object_named types a) p.first p.part) in
-            let parts = second_part leads own h in
+            let part : Bool = fits.is_part_of types p.record_type (fits.object_named types a) in
+            let all = second_part leads own h in
+            let parts = first_part (among && found) part all in
             let now : fits.has_parts_from (fits.part_count more p.record_type) p.part (fits.parts_named more (fits.object_named more a)) ≡ true = rw (count, within) (first_part among found parts) in
             let still : (eqb (fits.part_count more p.record_type) 0 || fits.is_found more (length more) p.record_type (fits.place_from (fits.object_named more a) p.first p.part)) ≡ true =
             rw (count, same) (or_weaker (eqb (fits.part_count types p.record_type) 0) (fits.is_found types (length types) p.record_type (fits.place_from (fits.object_named types a) p.first p.part))
             (fits.is_found more (length more) p.record_type (fits.place_from (fits.object_named types a) p.first p.part))
             (found_stays types more ts laid (length types) (length more) p.record_type (fits.place_from (fits.object_named types a) p.first p.part) (longer_types types more ts)) (second_part among found parts)) in
+            let among_more = fits.has_parts_from (fits.part_count more p.record_type) p.part (fits.parts_named more (fits.object_named more a)) in
+            let found_more = eqb (fits.part_count more p.record_type) 0 || fits.is_found more (length more) p.record_type (fits.place_from (fits.object_named more a) p.first p.part) in
             both_parts (fits.has_record_at (fits.object_components more a) p.first (fits.record_components more p.record_type)) (fits.has_parts_at more p.record_type (fits.object_named more a) p.first p.part)
             (by_access a led)
-            (both_parts (fits.has_parts_from (fits.part_count more p.record_type) p.part (fits.parts_named more (fits.object_named more a)))
-            (eqb (fits.part_count more p.record_type) 0 || fits.is_found more (length more) p.record_type (fits.place_from (fits.object_named more a) p.first p.part)) now still)
+            (both_parts (among_more && found_more) (fits.is_part_of more p.record_type (fits.object_named more a)) (both_parts among_more found_more now still)
+            (rw same (is_part_stays types more ts p.record_type (fits.object_named types a) is (second_part (among && found) part all))))
 
         by_kind : (o : Option VariableKind) → fits.path_kind types variables p.object ≡ o → (fits.has_record_at (fits.object_components types (fits.access_of o)) p.first (fits.record_components types p.record_type) && fits.has_parts_at types p.record_type (fits.object_named types (fits.access_of o)) p.first p.part) ≡ true → fits.is_record_path more others p ≡ true
         by_kind None is h = absurd (cc h)

@@ -19,6 +19,7 @@ use Rattle.ada_program.specs.declared.program.ComponentKind.{ComponentKind}
 use Rattle.ada_program.specs.declared.program.ComponentKind.TheVariants as kind
 use Rattle.ada_program.specs.ProgramForm.{TypeForm, record_of, access_to, object_of, VariableForm}
 use Rattle.ada_program.specs.WellFormed as fits
+use Rattle.ada_program.proofs.Deep.{is_part, record_there}
 use Rattle.ada_resolve.specs.declared.fault.NameRule.{NameRule}
 use Rattle.ada_resolve.specs.declared.fault.NameRule.TheVariants.{UnknownName, NotInProfile}
 use Rattle.ada_resolve.specs.declared.library.LibraryName.{LibraryName}
@@ -91,9 +92,12 @@ walk_there types of t first from all w = by_count (eqb (fits.part_count types t)
     by_count true none = refl
     by_count false off =
         let some = positive (fits.part_count types t) off in
-        let walked = w some in
-        ap (λ (o : Option ℕ). fits.is_found types (length types) t (fits.place_from o first from)) walked.1 ∙
-        walk_found types all.1 (length types) walked.0 first from t walked.2 some (number_within types all.1 walked.0)
+        ap (λ (o : Option ℕ). fits.is_found types (length types) t (fits.place_from o first from)) w.1 ∙
+        walk_found types all.1 (length types) w.0 first from t (w.3 some) some (number_within types all.1 w.0)
+
+-- and its type is that of a part
+part_there : (types : List TypeForm) (of : Option VariableKind) (t first from : ℕ) → fits.is_record types t ≡ true → IsWalked types of t first from → fits.is_part_of types t (fits.object_named types (fits.access_of of)) ≡ true
+part_there types of t first from r w = ap (λ (o : Option ℕ). fits.is_part_of types t o) w.1 ∙ is_part types t w.0 (record_there types t r) w.2
 
 -- a record within an object
 within_fits : (types : List TypeForm) (of : Option VariableKind) (t first from : ℕ) → TypesFit types → IsWithin types of (elementary_of types t) first from (fits.part_count types t) → fits.is_record types t ≡ true → IsWalked types of t first from → (fits.has_record_at (fits.object_components types (fits.access_of of)) first (fits.record_components types t) && fits.has_parts_at types t (fits.object_named types (fits.access_of of)) first from) ≡ true
@@ -104,11 +108,12 @@ within_fits types of t first from all w r walked =
     let rest : drop first (elementary_of types w.1) ≡ ks ++ w.3 = ap (λ cs. drop first cs) w.6 ∙ (ap (λ n. drop n (w.2 ++ (ks ++ w.3))) (sym w.7) ∙ drop-append_seam w.2 (ks ++ w.3)) in
     let among : fits.has_parts_from (fits.part_count types t) from (fits.parts_named types (fits.object_named types (fits.access_of of))) ≡ true =
     rw w.4 (rw w.5 (parts_from (fits.part_count types t) from (fits.part_count types w.1) w.8)) in
+    let counts = fits.has_parts_from (fits.part_count types t) from (fits.parts_named types (fits.object_named types (fits.access_of of))) in
+    let found = eqb (fits.part_count types t) 0 || fits.is_found types (length types) t (fits.place_from (fits.object_named types (fits.access_of of)) first from) in
     both_parts (fits.has_record_at (fits.object_components types (fits.access_of of)) first (fits.record_components types t)) (fits.has_parts_at types t (fits.object_named types (fits.access_of of)) first from)
     (rw w.4 (rw w.5 (rw whole (rw own (rw rest (begins_own ks w.3))))))
-    (both_parts (fits.has_parts_from (fits.part_count types t) from (fits.parts_named types (fits.object_named types (fits.access_of of))))
-    (eqb (fits.part_count types t) 0 || fits.is_found types (length types) t (fits.place_from (fits.object_named types (fits.access_of of)) first from)) among
-    (walk_there types of t first from all walked))
+    (both_parts (counts && found) (fits.is_part_of types t (fits.object_named types (fits.access_of of)))
+    (both_parts counts found among (walk_there types of t first from all walked)) (part_there types of t first from r walked))
 
 -- what is reached means what it holds
 reached_fits : (types : List TypeForm) (variables : List VariableForm) (path : PathForm) (spot : Spot) (at : Reached) → TypesFit types → IsReached types (fits.path_kind types variables path) at → Quiet (record_type_wanted at spot) → MeantFits types variables (reached_meant path at)

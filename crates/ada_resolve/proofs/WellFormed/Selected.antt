@@ -15,8 +15,10 @@ use Rattle.ada_program.specs.declared.program.VariableKind.TheVariants as variab
 use Rattle.ada_program.specs.declared.program.TypeNo.{TypeNo}
 use Rattle.ada_program.specs.ProgramForm.{PartForm, TypeForm, record_of, access_to, object_of}
 use Rattle.ada_program.specs.Controlled as controlled
+use Rattle.ada_program.specs.Parts.{HasPart, itself}
 use Rattle.ada_program.specs.Walks.{Walks, ends, into}
 use Rattle.ada_program.specs.WellFormed as fits
+use Rattle.ada_program.proofs.Deep.{component_is, parts_behind}
 use Rattle.ada_resolve.specs.declared.fault.NameRule.TheVariants.{WrongType}
 use Rattle.ada_resolve.specs.declared.selectors.Reached.{Reached}
 use Rattle.ada_resolve.specs.declared.selectors.Reached.TheVariants as reached
@@ -92,10 +94,10 @@ IsWithin types of kinds first from count =
     (fits.named_in (slice_get types access) ≡ Some d) × (elementary_of types d ≡ before ++ (kinds ++ behind)) × (length before ≡ first) ×
     (from + count ≤ fits.part_count types d)
 
--- a record type with controlled parts is found, at this place, in the object behind what is held
+-- the object behind what is held has a part of a record type, and one with controlled parts is found at this place
 abbrev pub IsWalked : List TypeForm → Option VariableKind → (t first from : ℕ) → Type 0
 IsWalked types of t first from =
-    0 < fits.part_count types t → (d : ℕ) × (fits.object_named types (fits.access_of of) ≡ Some d) × Walks types d first from t
+    (d : ℕ) × (fits.object_named types (fits.access_of of) ≡ Some d) × HasPart types t d × (0 < fits.part_count types t → Walks types d first from t)
 
 -- so it is with a component that is a record
 abbrev pub KindWalked : List TypeForm → Option VariableKind → PartKind → (first from : ℕ) → Type 0
@@ -166,7 +168,7 @@ part_is types of t first from name ps cs final j c laid w there at =
     let within = w.8 in
     (w.0, w.1, w.2 ++ own.0, own.1 ++ w.3, w.4, w.5, w.6 ∙ (ap (λ ks. w.2 ++ (ks ++ w.3)) whole ∙ part_within w.2 own.0 kinds own.1 w.3), long ∙ omega (arith, place, begin), omega (arith, among, within))
 
--- a component with controlled parts is found behind its record
+-- a component that is a record is a part of what its record is a part of, and one with controlled parts is found behind it
 some_final : (o : Option Finalization) → 0 < fits.count_said o → (f : Finalization) × (o ≡ Some f)
 some_final None some = absurd (omega (arith, some))
 some_final (Some f) some = (f, refl)
@@ -178,23 +180,23 @@ some_number (Some f) some = (f.number.0, refl)
 part_walks : (types : List TypeForm) (of : Option VariableKind) (t first from : ℕ) (name : List ℕ) (ps : List PartForm) (cs : List ComponentKind) (final : Option Finalization) (j : ℕ) (c : PartForm) → TypesFit types → IsWalked types of t first from → slice_get types t ≡ Some (record_of name ps cs final) → slice_get ps j ≡ Some c → KindWalked types of c.kind (first + c.first) (from + c.part)
 part_walks types of t first from name ps cs final j c all w there at = by_kind c.kind refl
   where
-    by_record : (u : TypeNo) → c.kind ≡ part.Record u → IsWalked types of u.0 (first + c.first) (from + c.part)
-    by_record u is some =
+    walks_there : (u : TypeNo) → c.kind ≡ part.Record u → 0 < fits.part_count types u.0 → Walks types w.0 (first + c.first) (from + c.part) u.0
+    walks_there u is some =
         let own = part_lies types t name ps cs final j c all.1 there at in
         let within : fits.parts_within types c.kind ≡ fits.part_count types u.0 = ap (λ (k : PartKind). fits.parts_within types k) is in
         let said : fits.part_count types t ≡ fits.count_said final = ap (λ (o : Option TypeForm). fits.count_said (fits.finalization_in o)) there in
-        let behind = w (omega (arith, own, within, some)) in
+        let behind = w.3 (omega (arith, own, within, some)) in
         let f = some_final final (omega (arith, own, within, some, said)) in
         let number = some_number (fits.finalization_of types u.0) some in
         let full : slice_get types t ≡ Some (record_of name ps cs (Some f.0)) = there ∙ ap (λ (o : Option Finalization). Some (record_of name ps cs o)) f.1 in
         let step : Walks types t (c.first + 0) (c.part + 0) u.0 = into j 0 0 u.0 number.0 name ps cs f.0 c u full at is number.1 ends in
         let no_first : c.first + 0 ≡ c.first = omega arith in
-        let no_part : c.part + 0 ≡ c.part = omega arith in (
-          behind.0,
-          behind.1,
-          walks_on types behind.0 first from t c.first c.part u.0 behind.2
-              (subst (λ (n : ℕ). Walks types t n c.part u.0) no_first (subst (λ (n : ℕ). Walks types t (c.first + 0) n u.0) no_part step)),
-        )
+        let no_part : c.part + 0 ≡ c.part = omega arith in
+        walks_on types w.0 first from t c.first c.part u.0 behind
+        (subst (λ (n : ℕ). Walks types t n c.part u.0) no_first (subst (λ (n : ℕ). Walks types t (c.first + 0) n u.0) no_part step))
+
+    by_record : (u : TypeNo) → c.kind ≡ part.Record u → IsWalked types of u.0 (first + c.first) (from + c.part)
+    by_record u is = (w.0, w.1, parts_behind types t u.0 w.0 w.2 (component_is types t j name ps cs final c u there at is), walks_there u is)
 
     by_kind : (kind : PartKind) → c.kind ≡ kind → KindWalked types of kind (first + c.first) (from + c.part)
     by_kind (part.Elementary kind) is = tt
@@ -242,7 +244,7 @@ object_behind_is : (k : Known) (types : List TypeForm) (of : Option VariableKind
 object_behind_is k types of t d all w is e =
     let there : fits.designated_type types t.0 ≡ Some d = sym (designated_same types t.0) ∙ designated_more k.types types t.0 d w e in
     let named_so = designated_named (slice_get types t.0) d there in
-    ((t.0, d, [], [], rw is refl, named_so, sym (append_none (elementary_of types d)), refl, omega arith), named_record types t.0 d all named_so, λ some. (d, ap (λ (o : Option VariableKind). fits.object_named types (fits.access_of o)) is ∙ named_so, ends))
+    ((t.0, d, [], [], rw is refl, named_so, sym (append_none (elementary_of types d)), refl, omega arith), named_record types t.0 d all named_so, (d, ap (λ (o : Option VariableKind). fits.object_named types (fits.access_of o)) is ∙ named_so, itself, λ some. ends))
 
 -- the record type of a record object, by the type that the object is known by
 named_more : (types more : List TypeForm) (object d : ℕ) → Stays types more → record_of_object types object ≡ Some d → fits.named_in (slice_get more object) ≡ Some d
@@ -263,7 +265,7 @@ whole_is k types of object all w is = by_type (record_of_object k.types object.0
     by_type None e = is
     by_type (Some d) e =
         let named_so = named_more k.types types object.0 d w e in
-        ((object.0, d, [], [], rw is refl, named_so, sym (append_none (elementary_of types d)), refl, omega arith), named_record types object.0 d all named_so, λ some. (d, ap (λ (o : Option VariableKind). fits.object_named types (fits.access_of o)) is ∙ named_so, ends))
+        ((object.0, d, [], [], rw is refl, named_so, sym (append_none (elementary_of types d)), refl, omega arith), named_record types object.0 d all named_so, (d, ap (λ (o : Option VariableKind). fits.object_named types (fits.access_of o)) is ∙ named_so, itself, λ some. ends))
 
 -- the record type whose component is selected
 abbrev pub IsBehind : Known → Reached → ℕ → Type 0

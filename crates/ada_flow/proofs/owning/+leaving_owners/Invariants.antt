@@ -1,7 +1,7 @@
 use Rattle.std.proofs.Common.{◌≡◌, ◌+◌, ◌*◌, drop, map}
 use Rattle.std.specs.List.{list_any}
 use Rattle.ada_flow.specs.Flow.{leaves_within}
-use Rattle.ada_flow.specs.Parts.{is_record_among}
+use Rattle.ada_program.specs.Parts.{is_record_among}
 use Rattle.ada_program.specs.ProgramForm.{part_form, type_form}
 use Rattle.ada_flow.proofs.owning.+leaving_owners.Given as goal
 

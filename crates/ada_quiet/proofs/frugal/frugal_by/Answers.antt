@@ -5,43 +5,48 @@ use Rattle.ada_program.specs.declared.program.Procedure.{Procedure}
 use Rattle.ada_program.specs.declared.program.TypeDefinition.{TypeDefinition}
 use Rattle.ada_program.specs.Kept.{types_in}
 use Rattle.ada_program.specs.ProgramForm.{body_form}
-use Rattle.ada_quiet.specs.Calm.{inert_types}
+use Rattle.ada_quiet.specs.Calm.{unadjusted_types, unfinalized_types}
 use Rattle.ada_quiet.specs.Frugal.{Thrift, is_frugal_body, frugal_from}
-use Rattle.ada_quiet.specs.Known.{marked_in}
 use Rattle.ada_quiet.proofs.frugal.frugal_by.Goals as goal
 
 -- what bodies go by that are called, where this is known of the types, and of the procedures before them
-abbrev called_by : List TypeDefinition → (outermost : List ℕ) → (inert frugal : List Bool) → Thrift
-called_by types outermost inert frugal =
-    record { types = types_in types; outermost = outermost; inert = inert; procedures = frugal; operation = false }
+abbrev called_by : List TypeDefinition → (unadjusted unfinalized frugal : List Bool) → Thrift
+called_by types unadjusted unfinalized frugal = record {
+  types = types_in types;
+  unadjusted = unadjusted;
+  unfinalized = unfinalized;
+  procedures = frugal;
+  operation = false;
+}
 
 -- what is known of one more, and what is left behind it, tell of all
-next : (types : List TypeDefinition) (outermost : List ℕ) (frugal more : List Bool) (here : Bool) (ps : List Procedure) (n : ℕ) (b : Procedure)
+next : (types : List TypeDefinition) (frugal more : List Bool) (here : Bool) (ps : List Procedure) (n : ℕ) (b : Procedure)
     (all : List Bool) → n < length ps → b ≡ get_or ps n b
-    → here ≡ is_frugal_body (called_by types outermost (inert_types (types_in types)) frugal) (body_form b) → more ≡ frugal ++ here ∷ []
-    → frugal_from (types_in types) outermost frugal (map body_form (drop n ps)) ≡ all
-    → frugal_from (types_in types) outermost more (map body_form (drop (n + 1) ps)) ≡ all
-next types outermost frugal more here ps n b all inside there is grown before =
+    → here ≡ is_frugal_body (called_by types (unadjusted_types (types_in types)) (unfinalized_types (types_in types)) frugal) (body_form b) → more ≡ frugal ++ here ∷ []
+    → frugal_from (types_in types) frugal (map body_form (drop n ps)) ≡ all
+    → frugal_from (types_in types) more (map body_form (drop (n + 1) ps)) ≡ all
+next types frugal more here ps n b all inside there is grown before =
     let rest = drop (n + 1) ps in
-    ap (λ (marks : List Bool). frugal_from (types_in types) outermost marks (map body_form rest)) (grown ∙ ap (λ (told : Bool). frugal ++ told ∷ []) is)
-    ∙ ap (λ (q : Procedure). frugal_from (types_in types) outermost frugal (map body_form (q ∷ rest))) there
-    ∙ sym (at_drop_more (λ qs. frugal_from (types_in types) outermost frugal (map body_form qs)) ps n b inside)
+    ap (λ (marks : List Bool). frugal_from (types_in types) marks (map body_form rest)) (grown ∙ ap (λ (told : Bool). frugal ++ told ∷ []) is)
+    ∙ ap (λ (q : Procedure). frugal_from (types_in types) frugal (map body_form (q ∷ rest))) there
+    ∙ sym (at_drop_more (λ qs. frugal_from (types_in types) frugal (map body_form qs)) ps n b inside)
     ∙ before
 
 pub procedures-preserved : goal.procedures-preserved
 procedures-preserved c =
     let program = c.args.program.now in
-    let outermost = marked_in c.args.outermost.now in
     let index = c.procedures.procedure-index in
     let frugal = c.procedures.frugal.items in
     let b = c.procedure-item.result in
     let inside = subst (λ (ps : List Procedure). index < length ps) c.deref-procedure-items.ensures.value c.procedures-test.true in
     let there = subst (λ (ps : List Procedure). b ≡ get_or ps index b) c.deref-procedure-items.ensures.value c.procedure-item.is in
     let is = c.is_frugal_body-is_frugal.ensures
-    ∙ ap (λ (types : List TypeDefinition). is_frugal_body (called_by types outermost c.args.inert.now c.deref-in-procedures.result.now) (body_form b))
+    ∙ ap (λ (types : List TypeDefinition). is_frugal_body (called_by types c.args.unadjusted.now c.args.unfinalized.now c.deref-in-procedures.result.now) (body_form b))
     c.deref.ensures.value
-    ∙ ap (λ (marks : List Bool). is_frugal_body (called_by program.types.items outermost c.args.inert.now marks) (body_form b))
+    ∙ ap (λ (marks : List Bool). is_frugal_body (called_by program.types.items c.args.unadjusted.now c.args.unfinalized.now marks) (body_form b))
     c.deref-in-procedures.ensures.value
-    ∙ ap (λ (inert : List Bool). is_frugal_body (called_by program.types.items outermost inert frugal) (body_form b)) c.requires in
-    next program.types.items outermost frugal c.push.new.self.items c.is_frugal_body-is_frugal.result program.procedures.items index b _ inside there is
+    ∙ ap (λ (told : List Bool). is_frugal_body (called_by program.types.items told c.args.unfinalized.now frugal) (body_form b)) c.requires.adjusted
+    ∙ ap (λ (told : List Bool). is_frugal_body (called_by program.types.items (unadjusted_types (types_in program.types.items)) told frugal) (body_form b))
+    c.requires.finalized in
+    next program.types.items frugal c.push.new.self.items c.is_frugal_body-is_frugal.result program.procedures.items index b _ inside there is
     c.in_ok-push.ensures.items c.procedures.invariant

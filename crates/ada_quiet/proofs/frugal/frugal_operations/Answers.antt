@@ -3,13 +3,10 @@ use Rattle.std.specs.Global.{Vec}
 use Rattle.std.specs.Prelude.{Result, Ok, Err, IfOk}
 use Rattle.ada_program.specs.declared.program.TypeDefinition.{TypeDefinition}
 use Rattle.ada_program.specs.Kept.{types_in}
-use Rattle.ada_program.specs.Nested.{collected, is_one_of}
 use Rattle.ada_program.specs.ProgramForm.{BodyForm, ProgramForm, program_form}
-use Rattle.ada_quiet.specs.Calm.{inert_types}
+use Rattle.ada_quiet.specs.Calm.{unadjusted_types, unfinalized_types}
 use Rattle.ada_quiet.specs.Frugal.{Thrift, is_frugal_body, frugal_from, frugal_operations, thrift_of}
-use Rattle.ada_quiet.specs.Known.{marked_in}
-use Rattle.ada_quiet.proofs.FrugalAt.{frugal_alike, tests_alike, thrift_alike}
-use Rattle.ada_quiet.proofs.MarkedNumbers.{marked_told}
+use Rattle.ada_quiet.proofs.FrugalAt.{tests_alike, thrift_alike}
 use Rattle.ada_quiet.proofs.frugal.frugal_operations.Goals as goal
 
 -- what is told by the marks is told by the collections that they are made from
@@ -22,20 +19,16 @@ by_marks (Err e) p thrift same is = is
 pub returns : goal.returns
 returns c =
     let p = program_form c.args.program.now in
-    let marks = c.in_ok-outermost.outermost.items in
-    let outermost = λ (t : ℕ). marked_told marks t ∙ c.in_ok-outermost.ensures t in
-    let procedures = c.deref-7.ensures.value ∙ c.in_ok-procedures.ensures
-    ∙ ap (λ (ms : List Bool). frugal_from p.types (marked_in ms) [] p.bodies) c.deref-2.ensures.value
-    ∙ frugal_alike p.types (marked_in marks) (collected p.declarations) outermost [] p.bodies in
-    let inert = c.deref-6.ensures.value ∙ c.in_ok-inert.ensures ∙ ap (λ (ts : List TypeDefinition). inert_types (types_in ts)) c.deref.ensures.value in
+    let procedures = c.deref-8.ensures.value ∙ c.in_ok-procedures.ensures in
+    let unadjusted = c.deref-6.ensures.value ∙ c.in_ok-unadjusted.ensures ∙ ap (λ (ts : List TypeDefinition). unadjusted_types (types_in ts)) c.deref.ensures.value in
+    let unfinalized = c.deref-7.ensures.value ∙ c.in_ok-unfinalized.ensures ∙ ap (λ (ts : List TypeDefinition). unfinalized_types (types_in ts)) c.deref-2.ensures.value in
     let thrift : Thrift = record {
-      types = types_in c.deref-4.result.now;
-      outermost = marked_in c.deref-5.result.now;
-      inert = c.deref-6.result.now;
-      procedures = c.deref-7.result.now;
+      types = types_in c.deref-5.result.now;
+      unadjusted = c.deref-6.result.now;
+      unfinalized = c.deref-7.result.now;
+      procedures = c.deref-8.result.now;
       operation = true;
     } in
     by_marks c.are_frugal_bodies.result p thrift
-    (thrift_alike thrift (thrift_of p) (ap (λ (ts : List TypeDefinition). types_in ts) c.deref-4.ensures.value)
-    (λ t. ap (λ (ms : List Bool). is_one_of (marked_in ms) t) c.deref-5.ensures.value ∙ outermost t) inert procedures refl)
+    (thrift_alike thrift (thrift_of p) (ap (λ (ts : List TypeDefinition). types_in ts) c.deref-5.ensures.value) unadjusted unfinalized procedures refl)
     c.are_frugal_bodies.ensures

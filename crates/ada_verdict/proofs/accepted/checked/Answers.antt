@@ -23,7 +23,6 @@ invariant_of-result c = (
     spares_adjusted = c.adjusts_spare_their_own.ensures (program_form c.in_ok-program.program) c.in_ok-judge.ensures.fine.1;
     lets_nothing_out = none_called (program_form c.in_ok-program.program)
         (c.obeying_propagates_nothing.ensures (program_form c.in_ok-program.program) c.in_ok-judge.ensures.fine.1);
-    spares_holders = c.in_ok-judge.ensures.holders;
     obeys = c.in_ok-judge.ensures.fine.2;
   },
   c.in_ok-judge.ensures.back,
@@ -40,6 +39,5 @@ returns-clause-sound c = record {
   spares_adjusted = c.adjusts_spare_their_own.ensures (program_form c.in_ok-program.program) c.in_ok-judge.ensures.fine.1;
   lets_nothing_out = none_called (program_form c.in_ok-program.program)
       (c.obeying_propagates_nothing.ensures (program_form c.in_ok-program.program) c.in_ok-judge.ensures.fine.1);
-  spares_holders = c.in_ok-judge.ensures.holders;
   obeys = c.in_ok-judge.ensures.fine.2;
 }

@@ -1,0 +1,22 @@
+with Ada.Finalization; with Ada.Text_IO;
+procedure Main is
+   type Tally is new Ada.Finalization.Controlled with record Count : Integer := 1; end record;
+   overriding procedure Initialize (Object : in out Tally);
+   type Board is new Ada.Finalization.Limited_Controlled with record L : Tally; end record;
+   overriding procedure Initialize (Object : in out Board);
+   overriding procedure Initialize (Object : in out Tally) is
+   begin
+      Object.Count := 2;
+   end Initialize;
+   overriding procedure Initialize (Object : in out Board) is
+      B : Tally;
+   begin
+      B.Count := B.Count + 5;
+      Object.L := B;
+   exception
+      when Constraint_Error => null;
+   end Initialize;
+   B : Board;
+begin
+   Ada.Text_IO.Put_Line (Integer'Image (B.L.Count));
+end Main;

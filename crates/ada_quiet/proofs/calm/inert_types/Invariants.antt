@@ -1,9 +1,0 @@
-use Rattle.std.proofs.Common.{◌≡◌, Some}
-use Rattle.ada_program.specs.Kept.{types_in}
-use Rattle.ada_program.specs.WellFormed.{finalization_in, overrides_nothing}
-use Rattle.ada_quiet.specs.Calm.{calm_up_to}
-use Rattle.ada_quiet.proofs.calm.inert_types.Given as goal
-
--- it is known of those types that were passed
-abbrev pub invariant-numbered : goal.invariant-numbered
-invariant-numbered l = l.inert.items ≡ calm_up_to (λ t. overrides_nothing (finalization_in (Some t))) (types_in l.types) l.definition-index
