@@ -18,7 +18,7 @@ use Rattle.ada_meaning.specs.declared.state.Stage.TheVariants.{Building, Existin
 use Rattle.ada_meaning.specs.Event.{Followed, Quiet}
 use Rattle.ada_meaning.specs.Frame.{Frame, Copies, Fills, StoresRecord}
 use Rattle.ada_meaning.specs.State.{Activation}
-use Rattle.ada_meaning.specs.Step.{moves, set_operands, operands, in_front, record_in, copied_next, copies_next, newest_ones, without_newest, stored_from, record_stored_next, store_record_next, record_cell}
+use Rattle.ada_meaning.specs.Step.{moves, set_operands, operands, in_front, if_whole, record_in, copied_next, copies_next, newest_ones, without_newest, stored_from, record_stored_next, store_record_next, record_cell}
 use Rattle.ada_meaning.specs.Named.{Object, State, Next, named, next, look, seen, existing, object_at, changed, filled, new_object}
 use Rattle.ada_meaning.specs.Run.{Event, settled, Leads}
 use Rattle.ada_meaning.specs.Records.{component_in, component_at, with_values, IsCopied, RecordsAreCopied}
@@ -77,6 +77,23 @@ module _ {X : Type 0} where
   get_drop xs zero i = ap (λ (j : ℕ). slice_get xs j) (omega arith)
   get_drop [] (suc n) i = refl
   get_drop (x ∷ xs) (suc n) i = let next : suc (n + i) ≡ suc n + i = omega arith in get_drop xs n i ∙ ap (λ (j : ℕ). slice_get (x ∷ xs) j) next
+
+  take_same : (xs ys : List X) (n : ℕ) → ((i : ℕ) → i < n → slice_get xs i ≡ slice_get ys i) → take n xs ≡ take n ys
+  take_same xs ys zero same = refl
+  take_same [] [] (suc n) same = refl
+  take_same [] (y ∷ ys) (suc n) same = let first : None ≡ Some y = same 0 (omega arith) in absurd (cc)
+  take_same (x ∷ xs) [] (suc n) same = let first : Some x ≡ None = same 0 (omega arith) in absurd (cc)
+  take_same (x ∷ xs) (y ∷ ys) (suc n) same =
+      let first : Some x ≡ Some y = same 0 (omega arith) in
+      let one : x ≡ y = cc in
+      let rest : take n xs ≡ take n ys = take_same xs ys n (λ i lt. same (suc i) (omega (arith, lt))) in
+      ap (λ (z : X). z ∷ take n xs) one ∙ ap (λ (zs : List X). y ∷ zs) rest
+
+  -- A part of a list is the same as that of another one, if each of its elements is.
+  pub record_same : (xs ys : List X) (first count : ℕ) → ((i : ℕ) → i < count → slice_get xs (first + i) ≡ slice_get ys (first + i)) → record_in xs first count ≡ record_in ys first count
+  record_same xs ys first count same =
+      ap (λ (zs : List X). if_whole count zs)
+      (take_same (drop first xs) (drop first ys) count (λ i lt. get_drop xs first i ∙ same i lt ∙ sym (get_drop ys first i)))
 
   -- Elements that are set one after another, from one on.
   abbrev set_from : List X → ℕ → List X → List X

@@ -26,8 +26,7 @@ use Rattle.ada_meaning.specs.Named.{Object, State, Next, named, next}
 use Rattle.ada_meaning.proofs.OperationExamples.{vec, no_name, component_of}
 use Rattle.ada_untouched.specs.Alike.{ValuesAlike, ObjectsAlike, FoundAlike, HeapsAlike, NextBy, NextAlike}
 use Rattle.ada_untouched.specs.Past.{SameOrPast, HeapsButForPast}
-use Rattle.ada_untouched.specs.Untouched.{hides}
-use Rattle.ada_untouched.specs.Unwritten.{AreShown}
+use Rattle.ada_untouched.specs.Untouched.{AreShown}
 use Rattle.ada_untouched.specs.Example.{FollowsBeside, PremisesAreMet, LooksAtGhost, LooksAtHidden, PremiseIsNeeded, WritesShown, WritesHidden, WritesBeside, CopiesRecord, CopiesBeside, RecordsAreCopiedBeside, FollowsPast, GivesBackDiffering, PastObjectsDiffer}
 
 abbrev holder : Id
@@ -265,17 +264,17 @@ cells =
     ∷ definition.Access no_name (record { 0 = 0 }) None
     ∷ []
 
--- A record lies in the first object behind its hidden second component, and holds this; another one lies in the second object behind its first component.
+-- A record lies in the first object behind its hidden second component, and holds this; another one lies there behind it.
 abbrev records_with : (hidden left right : Value) → Stage → Bool → List Object
 records_with hidden left right stage there =
-    an_object (Null ∷ hidden ∷ left ∷ right ∷ []) Existing true
-    ∷ an_object (Null ∷ Names holder ∷ Names other ∷ []) Existing true
+    an_object (Null ∷ hidden ∷ left ∷ right ∷ Names holder ∷ Names other ∷ []) Existing true
+    ∷ an_object (Null ∷ []) Existing true
     ∷ an_object (Null ∷ []) stage there
     ∷ []
 
 -- The second one is copied over the first one: it is read, and both of its components are stored.
 abbrev copying : List Object → State
-copying heap = doing (Names other ∷ []) (frame.Copies 1 0 ∷ frame.Fills [] ∷ frame.StoresRecord (Names holder) 2 2 ∷ []) heap
+copying heap = doing (Names holder ∷ []) (frame.Copies 4 0 ∷ frame.Fills [] ∷ frame.StoresRecord (Names holder) 2 2 ∷ []) heap
 
 -- Its components are the newest operands then, and no item is left.
 abbrev copied : List Object → State
@@ -296,14 +295,14 @@ records_alike : (left right : Value) → HeapsAlike hidden_one one_ghost (one_wi
 records_alike left right = record { count = refl; objects = λ o. under o.0 }
   where
     under : (i : ℕ) → FoundAlike (hidden_one (record { 0 = i })) (one_ghost (record { 0 = i })) (slice_get (one_with left right) i) (slice_get (other_with left right) i)
-    under zero = record { values = beside Null (Names ghost) Null (left ∷ right ∷ []); cell = refl; listed = refl; life = refl }
-    under (suc zero) = itself (hidden_one other) (an_object (Null ∷ Names holder ∷ Names other ∷ []) Existing true)
+    under zero = record { values = beside Null (Names ghost) Null (left ∷ right ∷ Names holder ∷ Names other ∷ []); cell = refl; listed = refl; life = refl }
+    under (suc zero) = itself (hidden_one other) (an_object (Null ∷ []) Existing true)
     under (suc (suc zero)) = gone_or_not (hidden_one ghost) (Null ∷ []) Existing Gone true false
     under (suc (suc (suc i))) = tt
 
 -- Both states take these steps.
 copies_record : (hidden : Value) (stage : Stage) (there : Bool)
-    → CopiesRecord cells [] other holder 1 2 0 (copying (records_with hidden Null Null stage there)) (doing [] [] (records_with hidden (Names holder) (Names other) stage there))
+    → CopiesRecord cells [] holder holder 4 2 0 (copying (records_with hidden Null Null stage there)) (doing [] [] (records_with hidden (Names holder) (Names other) stage there))
 unfolding next
 copies_record hidden stage there = record {
   runs = refl;
@@ -316,9 +315,11 @@ copies_record hidden stage there = record {
   stores = refl;
 }
 
--- No component of the second object is hidden, and none of the record in the first one.
-shown_source : (c : ℕ) → hides hidden_one (Names other) c ≡ false
-shown_source c = refl
+-- No component of either record is hidden.
+shown_source : AreShown hidden_one (Names holder) 4 2
+shown_source zero below = refl
+shown_source (suc zero) below = refl
+shown_source (suc (suc i)) below = absurd (omega (arith, below))
 
 shown_target : AreShown hidden_one (Names holder) 2 2
 shown_target zero below = refl
@@ -329,15 +330,16 @@ copies_with : CopiesBeside cells [] hidden_one one_ghost (copying (one_with Null
     (doing [] [] (one_with (Names holder) (Names other))) (doing [] [] (other_with (Names holder) (Names other)))
 unfolding copies_record
 copies_with = record {
-  source = other;
+  source = holder;
   target = holder;
-  first = 1;
+  first = 4;
   to = 2;
   record_type = 0;
   copies = copies_record (Names ghost) Existing true;
   copies_too = copies_record Null Gone false;
   beside = (((refl, shown_source), tt), (tt, tt), (refl, shown_target));
   ghost = (ghost, record { is_ghost = refl; differs = λ e. absurd (cc) }, record { is_ghost = refl; differs = λ e. absurd (cc) });
+  source_differs = (1, record { is_hidden = refl; differs = λ e. absurd (cc) });
   stays = (1, record { is_hidden = refl; differs = λ e. absurd (cc) }, (Names ghost, refl, refl), (Null, refl, refl));
   changes = (0, omega arith, (Null, Names holder, refl, refl, λ e. absurd (cc)), (Null, Names holder, refl, refl, λ e. absurd (cc)));
   alike = record { rest = refl; heaps = records_alike Null Null };

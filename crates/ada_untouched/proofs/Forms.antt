@@ -1,6 +1,6 @@
 -- What forms do in states whose heaps are related so, where they look at nothing in which these may differ.
 
-use Rattle.std.proofs.Common.{◌≡◌, ◌⊎◌, ℕ, ℤ, Bool, true, false, List, [], ◌∷◌, Option, Some, None, Result, Ok, Err, refl, sym, subst, inl, inr}
+use Rattle.std.proofs.Common.{◌≡◌, ◌⊎◌, ℕ, ◌+◌, ℤ, Bool, true, false, List, [], ◌∷◌, Option, Some, None, Result, Ok, Err, refl, sym, subst, inl, inr}
 use Rattle.std.specs.Prelude.{not, if◌then◌else◌}
 use Rattle.std.specs.List.{slice_get, slice_index_or, AllByRecursion}
 use Rattle.ada_values.specs.declared.operator.BinaryOperator.{BinaryOperator}
@@ -27,9 +27,10 @@ use Rattle.ada_meaning.specs.State.{Owned, declared, collection, record_object, 
 use Rattle.ada_meaning.specs.Step.{halts, moves, tells, at, older, computed, raised, shorter, before_last, last_of, operands, set_operands, in_front, record_in, same_pool, held, newest, newest_ones, without_newest, component_next, follow_next, path_next, selected, named_next, holder_next, place_in, record_holder_next, expression_next, null_test_next, is_decided, link_next, links_next, outcome_next, item_next, items_next, copied_next, copies_next, end_next, told_back, given_back, back_next, target_next, stored_next, store_next, record_target_next, stored_from, record_stored_next, store_record_next, received_next, receive_next, referred_next, refers_next, open_next, opened_next, opens_next, line_next, taken_out, taken, members_next, item_leave_next, master_leave_next, leave_next, finalizing}
 use Rattle.ada_meaning.specs.Named.{Object, State, Next, named, look, lent, standing, whole, inside, reads_integer, reads_boolean, reads_null, same, create, created, store, on_object, parted, finished, members}
 use Rattle.ada_meaning.specs.Named as heap
+use Rattle.ada_meaning.proofs.Records.{record_same}
 use Rattle.ada_untouched.specs.Alike.{ValuesAlike, StatesBy, SparesGhosts}
-use Rattle.ada_untouched.specs.Untouched.{hides, IsInSight, IsReadable, IsOpen, LeadsOn, LeadsToHolder, HousesNoGhost, NewestHousesNoGhost, InnermostHousesNoGhost, ExpressionIsOpen, ItemIsOpen, ItemsAreOpen}
-use Rattle.ada_untouched.proofs.Heaps.{both_there, there_or_not, record_there, same_lists, by_found, members_in_sight, picked_in_sight}
+use Rattle.ada_untouched.specs.Untouched.{hides, AreShown, IsInSight, IsReadable, IsOpen, LeadsOn, LeadsToHolder, HousesNoGhost, NewestHousesNoGhost, InnermostHousesNoGhost, ExpressionIsOpen, ItemIsOpen, ItemsAreOpen}
+use Rattle.ada_untouched.proofs.Heaps.{both_there, there_or_not, record_there, by_found, members_in_sight, picked_in_sight}
 use Rattle.ada_untouched.proofs.Relation.{Keeps, NextSo, stored_so}
 
 -- The state with another heap.
@@ -135,12 +136,12 @@ module _ {hidden : Id → (component : ℕ) → Bool} {ghosts : Id → Bool} {Ar
   copied_same v None clear s k a = refl
   copied_same v (Some vs) clear s k a = goes (Followed v) clear (set_operands (in_front vs (operands s)) s) k a
 
-  pub copies_same : (v : Value) (first count : ℕ) (s : State) (k : List Object) → AreSo s.heap k → IsInSight ghosts v → ((component : ℕ) → hides hidden v component ≡ false) → NextSo ghosts AreSo (copies_next named v first count (look s.heap v) s) (copies_next named v first count (look k v) (over k s))
+  pub copies_same : (v : Value) (first count : ℕ) (s : State) (k : List Object) → AreSo s.heap k → IsInSight ghosts v → AreShown hidden v first count → NextSo ghosts AreSo (copies_next named v first count (look s.heap v) s) (copies_next named v first count (look k v) (over k s))
   copies_same v first count s k a clear shown =
       by_look v (λ f g. NextSo ghosts AreSo (copies_next named v first count f s) (copies_next named v first count g (over k s)))
       (goes Quiet tt (raised ConstraintError s) k a) refl refl
-      (λ cell us both. subst (λ (vs : List Value). NextSo ghosts AreSo (copied_next named v (record_in cell.values first count) s) (copied_next named v (record_in vs first count) (over k s)))
-      (same_lists cell.values us (λ c. both.values c (shown c))) (copied_same v (record_in cell.values first count) clear s k a))
+      (λ cell us both. subst (λ (found : Option (List Value)). NextSo ghosts AreSo (copied_next named v (record_in cell.values first count) s) (copied_next named v found (over k s)))
+      (record_same cell.values us first count (λ i below. both.values (first + i) (shown i below))) (copied_same v (record_in cell.values first count) clear s k a))
       s.heap k a clear
 
   -- Records and components that are given (6.2, 6.4.1).

@@ -238,7 +238,7 @@ module _ {hidden : Id → (component : ℕ) → Bool} {ghosts : Id → Bool} {Ar
   declarations_same (d ∷ ds) fs hs s k a = declaration_same d (at (frame.Elaborates ds fs hs ∷ s.control) s) k a
 
   -- What a frame does that has been taken off.
-  pub frame_same : (f : Frame Value) (s : State) (k : List Object) → AreSo s.heap k → FrameIsOpen hidden ghosts s f → NextSo ghosts AreSo (frame_next named types bodies f s) (frame_next named types bodies f (over k s))
+  pub frame_same : (f : Frame Value) (s : State) (k : List Object) → AreSo s.heap k → FrameIsOpen types hidden ghosts s f → NextSo ghosts AreSo (frame_next named types bodies f s) (frame_next named types bodies f (over k s))
   frame_same (frame.Elaborates ds fs hs) s k a clear = declarations_same ds fs hs s k a
   frame_same (frame.Does fs) s k a clear = stmts_same fs s k a clear
   frame_same (frame.Decides fs branches) s k a clear = decided_same fs branches (reads_boolean (newest named s)) (popped s) k a

@@ -9,7 +9,7 @@ use Rattle.ada_meaning.specs.Heap.{Cell}
 use Rattle.ada_meaning.specs.Step.{stored_from}
 use Rattle.ada_meaning.specs.Named.{Object, named, object_at, changed, new_object, create, filled, on_object, store}
 use Rattle.ada_meaning.specs.Records.{component_in}
-use Rattle.ada_untouched.specs.Unwritten.{IsShown, AreShown}
+use Rattle.ada_untouched.specs.Untouched.{IsShown, AreShown}
 use Rattle.ada_untouched.proofs.Heaps.{set_here, set_there, one_or_other}
 
 -- Each hidden component holds what it held.

@@ -32,7 +32,7 @@ use Rattle.ada_meaning.specs.State.{Owned, declared, collection, record_object, 
 use Rattle.ada_meaning.specs.Step.{halts, moves, tells, asks, picks, at, operands, treating, beginning, same_pool, newest_ones, without_newest, held, newest, before_last, last_of, selected, place_in, component_next, follow_next, path_next, named_next, holder_next, record_holder_next, expression_next, null_test_next, is_decided, link_next, links_next, outcome_next, item_next, items_next, copied_next, copies_next, operation_next, part_reference, born_next, begun_next, awaited_next, ended_next, finalized_next, performed_next, treats_next, end_next, told_back, given_back, back_next, target_next, stored_from, stored_next, store_next, record_target_next, record_stored_next, store_record_next, received_next, receive_next, referred_next, refers_next, open_next, opened_next, opens_next, line_next, taken_out, taken, members_next, item_leave_next, master_leave_next, leave_next, record_in}
 use Rattle.ada_meaning.specs.Named.{Object, State, Next, named, look, whole, inside, reads_boolean, parted, finished, treated, born_part, finalized_part, members, on_object}
 use Rattle.ada_meaning.specs.Named as heap
-use Rattle.ada_untouched.specs.Unwritten.{IsShown, AreShown}
+use Rattle.ada_untouched.specs.Untouched.{IsShown, AreShown}
 use Rattle.ada_untouched.proofs.Kept.{Kept, as_it_is, kept, on_kept, store_kept, stored_kept}
 
 module _ (hidden : Id → (component : ℕ) → Bool) where

@@ -95,23 +95,23 @@ module _ (types : List TypeDefinition) (bodies : List BodyForm) {hidden : Id →
   frame_passed m (frame.Returns actuals references) s k a clear = ended_same m actuals references s k a
   frame_passed m f s k a clear = passed_same (is_master f) (landing m f) m clear s k a
 
-  running_same : (l : List (Frame Value)) (s : State) (k : List Object) → AreSo s.heap k → FirstIsOpen hidden ghosts s Running l → NextSo ghosts AreSo (running_next named types bodies l s) (running_next named types bodies l (over k s))
+  running_same : (l : List (Frame Value)) (s : State) (k : List Object) → AreSo s.heap k → FirstIsOpen types hidden ghosts s Running l → NextSo ghosts AreSo (running_next named types bodies l s) (running_next named types bodies l (over k s))
   running_same [] s k a clear = refl
   running_same (f ∷ l) s k a clear = frame_same keeps types bodies f (at l s) k a clear
 
-  raising_same : (e : Exception) (l : List (Frame Value)) (s : State) (k : List Object) → AreSo s.heap k → FirstIsOpen hidden ghosts s (Raising e) l → NextSo ghosts AreSo (jump_next named (Raising e) l s) (jump_next named (Raising e) l (over k s))
+  raising_same : (e : Exception) (l : List (Frame Value)) (s : State) (k : List Object) → AreSo s.heap k → FirstIsOpen types hidden ghosts s (Raising e) l → NextSo ghosts AreSo (jump_next named (Raising e) l s) (jump_next named (Raising e) l (over k s))
   raising_same e [] s k a clear = refl
   raising_same e (f ∷ l) s k a clear = frame_passed (Raising e) f (at l s) k a (landing_clear s (Raising e) f clear)
 
-  exiting_same : (l : List (Frame Value)) (s : State) (k : List Object) → AreSo s.heap k → FirstIsOpen hidden ghosts s Exiting l → NextSo ghosts AreSo (jump_next named Exiting l s) (jump_next named Exiting l (over k s))
+  exiting_same : (l : List (Frame Value)) (s : State) (k : List Object) → AreSo s.heap k → FirstIsOpen types hidden ghosts s Exiting l → NextSo ghosts AreSo (jump_next named Exiting l s) (jump_next named Exiting l (over k s))
   exiting_same [] s k a clear = refl
   exiting_same (f ∷ l) s k a clear = frame_passed Exiting f (at l s) k a (landing_clear s Exiting f clear)
 
-  returning_same : (l : List (Frame Value)) (s : State) (k : List Object) → AreSo s.heap k → FirstIsOpen hidden ghosts s Returning l → NextSo ghosts AreSo (jump_next named Returning l s) (jump_next named Returning l (over k s))
+  returning_same : (l : List (Frame Value)) (s : State) (k : List Object) → AreSo s.heap k → FirstIsOpen types hidden ghosts s Returning l → NextSo ghosts AreSo (jump_next named Returning l s) (jump_next named Returning l (over k s))
   returning_same [] s k a clear = refl
   returning_same (f ∷ l) s k a clear = frame_passed Returning f (at l s) k a (landing_clear s Returning f clear)
 
-  mode_same : (m : Mode) (s : State) (k : List Object) → AreSo s.heap k → FirstIsOpen hidden ghosts s m s.control → NextSo ghosts AreSo (mode_next named types bodies m s) (mode_next named types bodies m (over k s))
+  mode_same : (m : Mode) (s : State) (k : List Object) → AreSo s.heap k → FirstIsOpen types hidden ghosts s m s.control → NextSo ghosts AreSo (mode_next named types bodies m s) (mode_next named types bodies m (over k s))
   mode_same Running s k a clear = running_same s.control s k a clear
   mode_same (Raising e) s k a clear = raising_same e s.control s k a clear
   mode_same Exiting s k a clear = exiting_same s.control s k a clear
@@ -121,7 +121,7 @@ module _ (types : List TypeDefinition) (bodies : List BodyForm) {hidden : Id →
 pub steps_so :
     {hidden : Id → (component : ℕ) → Bool} {ghosts : Id → Bool} {AreSo : List Object → List Object → Type 0} (keeps : Keeps hidden ghosts AreSo)
     (types : List TypeDefinition) (bodies : List BodyForm) (s t : State)
-    → Untouched hidden ghosts s → StatesBy AreSo s t → NextSo ghosts AreSo (next types bodies s) (next types bodies t)
+    → Untouched types hidden ghosts s → StatesBy AreSo s t → NextSo ghosts AreSo (next types bodies s) (next types bodies t)
 unfolding next
 steps_so {ghosts = ghosts} {AreSo = AreSo} keeps types bodies s t clear both =
     subst (λ (z : State). NextSo ghosts AreSo (mode_next named types bodies s.mode s) (mode_next named types bodies z.mode z)) (sym both.rest)

@@ -242,18 +242,23 @@ module _ (s : State) where
   statements_open no_stmts = tt
   statements_open (a_stmt f fs) = statement_open f
 
-  frame_open : (f : Frame Value) → FrameIsOpen none_hidden no_ghosts s f
-  frame_open (frame.Does fs) = statements_open fs
+  jump_open : (f : Frame Value) → JumpIsOpen none_hidden no_ghosts s f
+  jump_open (frame.Awaits v by done of part tasks) = sights v
+  jump_open f = tt
+
+module _ (types : List TypeDefinition) (s : State) where
+  frame_open : (f : Frame Value) → FrameIsOpen types none_hidden no_ghosts s f
+  frame_open (frame.Does fs) = statements_open s fs
   frame_open (frame.Leaves mode) = innermost_houses_none s.heap s.masters
-  frame_open (frame.Evaluates right) = right_open right
-  frame_open (frame.Computes e) = expression_open e
+  frame_open (frame.Evaluates right) = right_open s right
+  frame_open (frame.Computes e) = expression_open s e
   frame_open (frame.Follows cs) = open_path cs (newest named s)
-  frame_open (frame.Refers p) = leads_on p.object.selectors p.object.root
+  frame_open (frame.Refers p) = leads_on s p.object.selectors p.object.root
   frame_open (frame.RefersIn place t) = sights (newest named s)
   frame_open (frame.Opens path) = leads_to_holder path.selectors (held named s path.root)
   frame_open (frame.OpensIn c) = readable (newest named s) c
-  frame_open (frame.Fills items) = items_open items
-  frame_open (frame.Copies first t) = (sights (newest named s), none_hides (newest named s))
+  frame_open (frame.Fills items) = items_open s items
+  frame_open (frame.Copies first t) = (sights (newest named s), λ i below. none_hides (newest named s) (first + i))
   frame_open (frame.Targets c right) = sights (newest named s)
   frame_open (frame.StoresIn v c) = sights v
   frame_open (frame.TargetsRecord first t items) = sights (newest named s)
@@ -267,16 +272,12 @@ module _ (s : State) where
   frame_open (frame.ClearsIn v c) = sights v
   frame_open f = tt
 
-  jump_open : (f : Frame Value) → JumpIsOpen none_hidden no_ghosts s f
-  jump_open (frame.Awaits v by done of part tasks) = sights v
-  jump_open f = tt
-
-  first_open : (m : Mode) (k : List (Frame Value)) → FirstIsOpen none_hidden no_ghosts s m k
+  first_open : (m : Mode) (k : List (Frame Value)) → FirstIsOpen types none_hidden no_ghosts s m k
   first_open m [] = tt
   first_open Running (f ∷ k) = frame_open f
-  first_open (Raising e) (f ∷ k) = jump_open f
-  first_open Exiting (f ∷ k) = jump_open f
-  first_open Returning (f ∷ k) = jump_open f
+  first_open (Raising e) (f ∷ k) = jump_open s f
+  first_open Exiting (f ∷ k) = jump_open s f
+  first_open Returning (f ∷ k) = jump_open s f
 
 -- Whatever the events spare.
 whatever_spared : (n m : Next) → NextSo no_ghosts HeapsButForPast n m → NextBy HeapsButForPast (λ event. Unit {0}) n m
@@ -288,7 +289,7 @@ whatever_spared (picks count taken) m is = is
 
 pub past_does_not_matter : PastObjectsDoNotMatter
 past_does_not_matter types bodies s t both =
-    whatever_spared (next types bodies s) (next types bodies t) (steps_so heaps_but_for_past_keep types bodies s t (first_open s s.mode s.control) both)
+    whatever_spared (next types bodies s) (next types bodies t) (steps_so heaps_but_for_past_keep types bodies s t (first_open types s s.mode s.control) both)
 
 -- What is in no collection weighs nothing.
 module _ (types : List TypeDefinition) (cost : (of : ℕ) → ℕ) where

@@ -35,7 +35,7 @@ pub record DifferInGhost (ghosts : Id → Bool) (s t : State) (o : Id) : Type 0 
 -- A step follows a component of an object, beside a hidden one of the same object that names a ghost in the one state and nothing in the other: both states
 -- take it, and find the name of an object.
 pub record FollowsBeside (types : List TypeDefinition) (bodies : List BodyForm) (hidden : Id → (component : ℕ) → Bool) (ghosts : Id → Bool) (s t after behind : State) : Type 0 where
-  pub untouched : Untouched hidden ghosts s
+  pub untouched : Untouched types hidden ghosts s
   pub alike : StatesAlike hidden ghosts s t
   pub followed : Id
   pub beside : (component : ℕ) × DifferHidden hidden s t followed component
@@ -43,7 +43,7 @@ pub record FollowsBeside (types : List TypeDefinition) (bodies : List BodyForm) 
   pub follows : next types bodies s ≡ moves (Followed (Names followed)) after
   pub follows_too : next types bodies t ≡ moves (Followed (Names followed)) behind
   pub finds : (o : Id) × (newest named after ≡ Names o)
-  pub goes_on : Untouched hidden ghosts after
+  pub goes_on : Untouched types hidden ghosts after
 
 -- So it is somewhere.
 abbrev pub PremisesAreMet : Type 0
@@ -109,8 +109,8 @@ pub record CopiesRecord (types : List TypeDefinition) (bodies : List BodyForm) (
   pub stores : next types bodies ready ≡ moves (Followed (Names target)) after
 
 -- The next step looks at no hidden component and at no ghost, and writes no hidden component.
-abbrev pub GoesBeside : (hidden : Id → (component : ℕ) → Bool) → (ghosts : Id → Bool) → State → Type 0
-GoesBeside hidden ghosts s = Untouched hidden ghosts s × Unwritten hidden s
+abbrev pub GoesBeside : List TypeDefinition → (hidden : Id → (component : ℕ) → Bool) → (ghosts : Id → Bool) → State → Type 0
+GoesBeside types hidden ghosts s = Untouched types hidden ghosts s × Unwritten hidden s
 
 -- A component of an object holds in a state what it held before, and there is that component.
 abbrev pub Stays : (before after : State) → (o : Id) → (component : ℕ) → Type 0
@@ -123,9 +123,9 @@ Changes before after o component =
     (v : Value) × (u : Value) × (component_in (object_at before.heap o) component ≡ Some v) × (component_in (object_at after.heap o) component ≡ Some u)
     × (v ≢ u)
 
--- Two states differ in a hidden component of an object, and in a ghost. Both copy a record over one that lies in this object beside the hidden component. No
--- step looks at the hidden component or at the ghost, or writes the hidden component: it stays in each state, while a component of the record changes, and
--- behind each step the states are alike again.
+-- Two states differ in a hidden component of an object, and in a ghost. Both copy a record over one that lies in this object beside the hidden component, out of
+-- an object in which they differ so, too. No step looks at a hidden component or at the ghost, or writes a hidden component: it stays in each state, while a
+-- component of the record changes, and behind each step the states are alike again.
 pub record CopiesBeside (types : List TypeDefinition) (bodies : List BodyForm) (hidden : Id → (component : ℕ) → Bool) (ghosts : Id → Bool) (s t after behind : State) : Type 0 where
   pub source : Id
   pub target : Id
@@ -134,8 +134,9 @@ pub record CopiesBeside (types : List TypeDefinition) (bodies : List BodyForm) (
   pub record_type : ℕ
   pub copies : CopiesRecord types bodies source target first to record_type s after
   pub copies_too : CopiesRecord types bodies source target first to record_type t behind
-  pub beside : GoesBeside hidden ghosts s × GoesBeside hidden ghosts copies.read × GoesBeside hidden ghosts copies.ready
+  pub beside : GoesBeside types hidden ghosts s × GoesBeside types hidden ghosts copies.read × GoesBeside types hidden ghosts copies.ready
   pub ghost : (o : Id) × DifferInGhost ghosts s t o × DifferInGhost ghosts after behind o
+  pub source_differs : (component : ℕ) × DifferHidden hidden s t source component
   pub stays : (component : ℕ) × DifferHidden hidden s t target component × Stays s after target component × Stays t behind target component
   pub changes : (i : ℕ) × (i < width_of types record_type) × Changes s after target (to + i) × Changes t behind target (to + i)
   pub alike : StatesAlike hidden ghosts s t

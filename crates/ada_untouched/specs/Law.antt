@@ -19,7 +19,7 @@ use Rattle.ada_untouched.specs.Unwritten.{Unwritten}
 abbrev pub UntouchedPartsDoNotMatter : Type 0
 UntouchedPartsDoNotMatter =
     (types : List TypeDefinition) (bodies : List BodyForm) (hidden : Id → (component : ℕ) → Bool) (ghosts : Id → Bool) (s t : State)
-    → Untouched hidden ghosts s → StatesAlike hidden ghosts s t → NextAlike hidden ghosts (next types bodies s) (next types bodies t)
+    → Untouched types hidden ghosts s → StatesAlike hidden ghosts s t → NextAlike hidden ghosts (next types bodies s) (next types bodies t)
 
 -- Each hidden component of an object holds behind the step what it held before it, where the step writes none of them.
 abbrev pub HiddenPartsStay : Type 0

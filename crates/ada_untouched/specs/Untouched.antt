@@ -1,8 +1,10 @@
 -- What the next step looks at, by the first of what is left to do: at no hidden component and at no ghost.
 
-use Rattle.std.specs.Prelude.{◌≡◌, ◌≢◌, ◌⊎◌, ℕ, Bool, true, false, List, [], ◌∷◌, Option, Some, None}
+use Rattle.std.specs.Prelude.{◌≡◌, ◌≢◌, ◌⊎◌, ℕ, ◌+◌, ◌<◌, Bool, true, false, List, [], ◌∷◌, Option, Some, None}
 use Rattle.std.specs.List.{slice_get}
+use Rattle.ada_program.specs.declared.program.TypeDefinition.{TypeDefinition}
 use Rattle.ada_program.specs.Form.{PathForm, RecordPathForm, ExpressionForm, reads, is_null, ItemForm, item_of_path, item_of_record, RightForm, value_of, StmtForm, assigns, assigns_record, frees, gets, StmtsForm, no_stmts, a_stmt}
+use Rattle.ada_program.specs.Typed.{width_of}
 use Rattle.ada_meaning.specs.declared.state.Id.{Id}
 use Rattle.ada_meaning.specs.declared.state.Mode.{Mode}
 use Rattle.ada_meaning.specs.declared.state.Mode.TheVariants.{Running, Raising, Exiting, Returning}
@@ -23,13 +25,21 @@ hides hidden (Names o) c = hidden o c
 hides hidden (Scalar v) c = false
 hides hidden (Part o place) c = false
 
+-- A component of the object that a value names is not hidden.
+abbrev pub IsShown : (hidden : Id → (component : ℕ) → Bool) → Value → (component : ℕ) → Type 0
+IsShown hidden v c = hides hidden v c ≡ false
+
+-- Neither is any of so many components, from the first on.
+abbrev pub AreShown : (hidden : Id → (component : ℕ) → Bool) → Value → (first count : ℕ) → Type 0
+AreShown hidden v first count = (i : ℕ) → i < count → IsShown hidden v (first + i)
+
 -- The object of a value may be looked for.
 abbrev pub IsInSight : (ghosts : Id → Bool) → Value → Type 0
 IsInSight ghosts v = is_ghost ghosts v ≡ false
 
 -- A component of it may be read.
 abbrev pub IsReadable : (hidden : Id → (component : ℕ) → Bool) → (ghosts : Id → Bool) → Value → (component : ℕ) → Type 0
-IsReadable hidden ghosts v c = IsInSight ghosts v × (hides hidden v c ≡ false)
+IsReadable hidden ghosts v c = IsInSight ghosts v × IsShown hidden v c
 
 -- These components may be followed from an access value (4.1.3): the next step reads the first one.
 abbrev pub IsOpen : (hidden : Id → (component : ℕ) → Bool) → (ghosts : Id → Bool) → (selectors : List ℕ) → Value → Type 0
@@ -124,21 +134,27 @@ module _ (hidden : Id → (component : ℕ) → Bool) (ghosts : Id → Bool) (s 
   StatementsAreOpen no_stmts = Unit {0}
   StatementsAreOpen (a_stmt f fs) = StatementIsOpen f
 
-  -- What a frame looks at, where no jump is on its way. Where a record is copied from an object, that hides no component. An object is treated whose components
-  -- may be hidden (7.6, 7.6.1), or a part of it comes to have a value. The object that is taken out of its collection as a master is left (7.6.1) is none of the
+  -- What a jump looks at that comes to a frame: an object, where it comes out of an operation that was to begin a part of it (7.6.1).
+  abbrev pub JumpIsOpen : Frame Value → Type 0
+  JumpIsOpen (frame.Awaits v by done of part tasks) = IsInSight ghosts v
+  JumpIsOpen f = Unit {0}
+
+module _ (types : List TypeDefinition) (hidden : Id → (component : ℕ) → Bool) (ghosts : Id → Bool) (s : State) where
+  -- What a frame looks at, where no jump is on its way. A record that is copied hides none of its components (4.3.1). An object is treated whose components may
+  -- be hidden (7.6, 7.6.1), or a part of it comes to have a value. The object that is taken out of its collection as a master is left (7.6.1) is none of the
   -- ghosts, wherever these are.
   abbrev pub FrameIsOpen : Frame Value → Type 0
-  FrameIsOpen (frame.Does fs) = StatementsAreOpen fs
+  FrameIsOpen (frame.Does fs) = StatementsAreOpen hidden ghosts s fs
   FrameIsOpen (frame.Leaves mode) = InnermostHousesNoGhost ghosts s.heap s.masters
-  FrameIsOpen (frame.Evaluates right) = RightIsOpen right
-  FrameIsOpen (frame.Computes e) = ExpressionIsOpen e
+  FrameIsOpen (frame.Evaluates right) = RightIsOpen hidden ghosts s right
+  FrameIsOpen (frame.Computes e) = ExpressionIsOpen hidden ghosts s e
   FrameIsOpen (frame.Follows cs) = IsOpen hidden ghosts cs (newest named s)
-  FrameIsOpen (frame.Refers p) = RecordIsOpen p
+  FrameIsOpen (frame.Refers p) = RecordIsOpen hidden ghosts s p
   FrameIsOpen (frame.RefersIn place t) = IsInSight ghosts (newest named s)
-  FrameIsOpen (frame.Opens path) = HolderIsOpen path
+  FrameIsOpen (frame.Opens path) = HolderIsOpen hidden ghosts s path
   FrameIsOpen (frame.OpensIn c) = IsReadable hidden ghosts (newest named s) c
-  FrameIsOpen (frame.Fills items) = ItemsAreOpen items
-  FrameIsOpen (frame.Copies first t) = IsInSight ghosts (newest named s) × ((component : ℕ) → hides hidden (newest named s) component ≡ false)
+  FrameIsOpen (frame.Fills items) = ItemsAreOpen hidden ghosts s items
+  FrameIsOpen (frame.Copies first t) = IsInSight ghosts (newest named s) × AreShown hidden (newest named s) first (width_of types t)
   FrameIsOpen (frame.Targets c right) = IsInSight ghosts (newest named s)
   FrameIsOpen (frame.StoresIn v c) = IsInSight ghosts v
   FrameIsOpen (frame.TargetsRecord first t items) = IsInSight ghosts (newest named s)
@@ -152,19 +168,14 @@ module _ (hidden : Id → (component : ℕ) → Bool) (ghosts : Id → Bool) (s 
   FrameIsOpen (frame.ClearsIn v c) = IsInSight ghosts v
   FrameIsOpen f = Unit {0}
 
-  -- What a jump looks at that comes to a frame: an object, where it comes out of an operation that was to begin a part of it (7.6.1).
-  abbrev pub JumpIsOpen : Frame Value → Type 0
-  JumpIsOpen (frame.Awaits v by done of part tasks) = IsInSight ghosts v
-  JumpIsOpen f = Unit {0}
-
   -- What the first of what is left to do looks at, in a mode.
   abbrev pub FirstIsOpen : Mode → List (Frame Value) → Type 0
   FirstIsOpen m [] = Unit {0}
   FirstIsOpen Running (f ∷ k) = FrameIsOpen f
-  FirstIsOpen (Raising e) (f ∷ k) = JumpIsOpen f
-  FirstIsOpen Exiting (f ∷ k) = JumpIsOpen f
-  FirstIsOpen Returning (f ∷ k) = JumpIsOpen f
+  FirstIsOpen (Raising e) (f ∷ k) = JumpIsOpen hidden ghosts s f
+  FirstIsOpen Exiting (f ∷ k) = JumpIsOpen hidden ghosts s f
+  FirstIsOpen Returning (f ∷ k) = JumpIsOpen hidden ghosts s f
 
 -- The next step looks at no hidden component and at no ghost.
-abbrev pub Untouched : (hidden : Id → (component : ℕ) → Bool) → (ghosts : Id → Bool) → State → Type 0
-Untouched hidden ghosts s = FirstIsOpen hidden ghosts s s.mode s.control
+abbrev pub Untouched : List TypeDefinition → (hidden : Id → (component : ℕ) → Bool) → (ghosts : Id → Bool) → State → Type 0
+Untouched types hidden ghosts s = FirstIsOpen types hidden ghosts s s.mode s.control

@@ -1,6 +1,6 @@
 -- What the next step writes, by the first of what is left to do: no hidden component.
 
-use Rattle.std.specs.Prelude.{◌≡◌, ℕ, ◌+◌, ◌<◌, Bool, false, List, [], ◌∷◌}
+use Rattle.std.specs.Prelude.{ℕ, Bool, List, [], ◌∷◌}
 use Rattle.ada_meaning.specs.declared.state.Id.{Id}
 use Rattle.ada_meaning.specs.declared.state.Mode.{Mode}
 use Rattle.ada_meaning.specs.declared.state.Mode.TheVariants.{Running, Raising, Exiting, Returning}
@@ -9,15 +9,7 @@ use Rattle.ada_meaning.specs.Frame.{Frame}
 use Rattle.ada_meaning.specs.Frame as frame
 use Rattle.ada_meaning.specs.Step.{newest}
 use Rattle.ada_meaning.specs.Named.{State, named}
-use Rattle.ada_untouched.specs.Untouched.{hides}
-
--- A component of the object that a value names is not hidden.
-abbrev pub IsShown : (hidden : Id → (component : ℕ) → Bool) → Value → (component : ℕ) → Type 0
-IsShown hidden v c = hides hidden v c ≡ false
-
--- Neither is any of so many components, from the first on.
-abbrev pub AreShown : (hidden : Id → (component : ℕ) → Bool) → Value → (first count : ℕ) → Type 0
-AreShown hidden v first count = (i : ℕ) → i < count → IsShown hidden v (first + i)
+use Rattle.ada_untouched.specs.Untouched.{IsShown, AreShown}
 
 module _ (hidden : Id → (component : ℕ) → Bool) (s : State) where
   -- A frame writes no hidden component as it assigns (5.2), receives input, copies an `in out` parameter back (6.4.1) or sets null for a Free (13.11.2).
