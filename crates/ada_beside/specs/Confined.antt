@@ -1,6 +1,6 @@
 -- Of which bodies the law speaks: they free nothing, call nothing, and neither declare, assign nor pass records as wholes, and copy them only as items of new
--- objects; and each of their paths from the formal parameter begins with a component of the record that this is, so what they copy lies in other objects. Their
--- variables have numbers below `first`, and 0 is the formal parameter.
+-- objects; and each of their paths from the formal parameter begins with a component of the record that this is, or is that record, where it is copied or lies
+-- around what is. Their variables have numbers below `first`, and 0 is the formal parameter.
 
 use Rattle.std.specs.Prelude.{◌≡◌, ℕ, zero, suc, ◌+◌, ◌<◌, Bool, true, List, [], ◌∷◌, Option, Some, None, ◌⊎◌}
 use Rattle.ada_program.specs.Form.{PathForm, ExpressionForm, integer, boolean, reads, is_null, applied_to, chained, LinksForm, no_more_links, a_link, ItemForm, null_item, item_of_path, item_of_value, item_of_record, RightForm, nothing, value_of, allocates, allocates_default, computes, DeclarationForm, creates_pool, collects, declares, declares_record, StmtForm, skips, assigns, assigns_record, frees, gets, writes, writes_text, chooses, repeats, counts, exits, calls, returns, raises, encloses, StmtsForm, no_stmts, a_stmt, BranchesForm, otherwise, a_branch, HandlersForm, no_handlers, a_handler}
@@ -29,6 +29,11 @@ module _ (first : ℕ) (reaches : ℕ → Bool) where
   abbrev pub PathIsConfined : PathForm → Type 0
   PathIsConfined path = IsConfinedFrom path.root path.selectors
 
+  -- The way to a record that is copied: such a path, or the formal parameter itself.
+  abbrev pub IsCopiedFrom : (root : ℕ) → (selectors : List ℕ) → Type 0
+  IsCopiedFrom x [] = x < first
+  IsCopiedFrom x (c ∷ cs) = IsConfinedFrom x (c ∷ cs)
+
   abbrev mutual
     -- The paths of an expression are so.
     pub ExpressionIsConfined : ExpressionForm → Type 0
@@ -54,7 +59,7 @@ module _ (first : ℕ) (reaches : ℕ → Bool) where
   ItemIsConfined null_item = Unit {0}
   ItemIsConfined (item_of_path path) = PathIsConfined path
   ItemIsConfined (item_of_value e) = ExpressionIsConfined e
-  ItemIsConfined (item_of_record p) = PathIsConfined p.object
+  ItemIsConfined (item_of_record p) = IsCopiedFrom p.object.root p.object.selectors
 
   -- Those of all of these items are.
   abbrev pub ItemsAreConfined : List ItemForm → Type 0

@@ -9,6 +9,7 @@ use Rattle.ada_meaning.specs.Records.{component_in}
 use Rattle.ada_meaning.specs.Run.{Event}
 use Rattle.ada_tracked.specs.Frames.{View}
 use Rattle.ada_tracked.specs.Looking.{LooksElsewhere}
+use Rattle.ada_tracked.specs.Copying.{CopiesNone}
 use Rattle.ada_tracked.specs.Seen.{IsWatched}
 use Rattle.ada_beside.specs.Confined.{IsConfined}
 use Rattle.ada_beside.specs.Law.{LieBeside, IsWithin}
@@ -22,6 +23,7 @@ pub record WritesItsRecord (types : List TypeDefinition) (bodies : List BodyForm
   pub apart : LieBeside w reaches beside
   pub watched : IsWatched w (places s) s.heap
   pub elsewhere : LooksElsewhere w s
+  pub copies : CopiesNone types w.object beside s
   pub within : IsWithin s.control s.masters
   pub confined : IsConfined w reaches s
   pub steps : (e : Event) × (next types bodies s ≡ moves e after)

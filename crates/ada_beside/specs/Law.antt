@@ -14,6 +14,7 @@ use Rattle.ada_meaning.specs.Named.{Object, State, Next, object_at, next}
 use Rattle.ada_tracked.specs.Frames.{View}
 use Rattle.ada_tracked.specs.Law.{TakesNone}
 use Rattle.ada_tracked.specs.Looking.{LooksElsewhere}
+use Rattle.ada_tracked.specs.Copying.{CopiesNone}
 use Rattle.ada_tracked.specs.Seen.{IsWatched}
 use Rattle.ada_untouched.specs.Untouched.{Untouched}
 use Rattle.ada_untouched.specs.Unwritten.{Unwritten}
@@ -59,9 +60,10 @@ AllGoOn w reaches before (tells request e s) = GoesOn w reaches before s
 AllGoOn w reaches before (asks request answers) = (granted : Bool) → GoesOn w reaches before (answers granted)
 AllGoOn w reaches before (picks count taking) = ⊥
 
--- A step of such a body that looks at the object by the formal parameter alone neither looks at what lies beside the record nor writes it, and leaves the body so.
+-- A step of such a body that looks at the object by the formal parameter alone, and copies nothing that lies beside the record, neither looks at that nor writes
+-- it, and leaves the body so.
 abbrev pub BodiesStayWithinTheirRecord : Type 0
 BodiesStayWithinTheirRecord =
     (types : List TypeDefinition) (bodies : List BodyForm) (w : View) (reaches beside : ℕ → Bool) (s : State) → LieBeside w reaches beside
-    → IsWatched w (places s) s.heap → LooksElsewhere w s → IsWithin s.control s.masters → IsConfined w reaches s
-    → Untouched (hidden_beside w beside) no_ghosts s × Unwritten (hidden_beside w beside) s × AllGoOn w reaches s.heap (next types bodies s)
+    → IsWatched w (places s) s.heap → LooksElsewhere w s → CopiesNone types w.object beside s → IsWithin s.control s.masters → IsConfined w reaches s
+    → Untouched types (hidden_beside w beside) no_ghosts s × Unwritten (hidden_beside w beside) s × AllGoOn w reaches s.heap (next types bodies s)

@@ -20,7 +20,7 @@ use Rattle.ada_flow.specs.Tracking.{Tracks, seen, judged}
 use Rattle.ada_tracked.specs.Forms.{seen_expression, seen_links, seen_condition, seen_item, seen_items, seen_right, seen_declaration, seen_declarations}
 use Rattle.ada_tracked.specs.Simple.{ExpressionIsSimple, LinksAreSimple, ConditionIsSimple, ItemIsSimple, ItemsAreSimple, RightIsSimple, DeclarationIsSimple, DeclarationsAreSimple}
 use Rattle.ada_judged.specs.Fitting.{TracksComponents, ExpressionIsOfRecord, LinksAreOfRecord, ConditionIsOfRecord, ItemIsOfRecord, ItemsAreOfRecord, RightIsOfRecord, DeclarationIsOfRecord, DeclarationsAreOfRecord, DeclarationNamesBefore, DeclarationsNameBefore, ExpressionFits, ConditionFits, ItemsFit, RightFits, DeclarationsFit}
-use Rattle.ada_judged.proofs.FittingPaths.{and_left, and_right, and_both, front_kind, front_borrows, path_fits}
+use Rattle.ada_judged.proofs.FittingPaths.{and_left, and_right, and_both, front_kind, front_borrows, inside_fits, path_fits}
 use Rattle.ada_judged.proofs.ObeyingPaths.{sees, behind_alike}
 
 module _ (types : List TypeForm) (tracks : Tracks) (own : List VariableForm) (p : TracksComponents types tracks own) where
@@ -102,7 +102,7 @@ module _ (types : List TypeForm) (tracks : Tracks) (own : List VariableForm) (p 
       let copied = record_components types q.record_type in
       ap (λ (k : Option VariableKind). has_record_at (object_components types (access_of k)) q.first copied
       && has_parts_at types q.record_type (object_named types (access_of k)) q.first q.part && begins_with_record components copied)
-      (path_fits types tracks own p q.object s r).kind
+      (inside_fits types tracks own p q.object s r).kind
 
   same_width : (i : ItemForm) → item_width types (seen_item tracks i) ≡ item_width types i
   same_width null_item = refl

@@ -149,7 +149,11 @@ stand types tracks own p =
     stand_from types p.object (judged types tracks own) (variable_kind own 0) p.formal tracks.first tracks.components p.components
     (λ i. tracked_behind own (map (tracked_variable types (variable_kind own 0)) tracks.components) i (tracks.first + i) (ap (λ (k : ℕ). k + i) p.behind))
 
-pub path_fits : (types : List TypeForm) (tracks : Tracks) (own : List VariableForm) → TracksComponents types tracks own → (path : PathForm) → PathIsSimple tracks.first path → PathIsOfRecord path → PathFits types own (judged types tracks own) path (seen tracks path)
-path_fits types tracks own p path simple of_record =
-    let lt : path.root < length own = subst (λ (k : ℕ). path.root < k) p.behind (within tracks.first path.root path.selectors simple) in
+-- A path from any variable of the body, which may be the formal parameter alone.
+pub inside_fits : (types : List TypeForm) (tracks : Tracks) (own : List VariableForm) → TracksComponents types tracks own → (path : PathForm) → path.root < tracks.first → PathIsOfRecord path → PathFits types own (judged types tracks own) path (seen tracks path)
+inside_fits types tracks own p path inside of_record =
+    let lt : path.root < length own = subst (λ (k : ℕ). path.root < k) p.behind inside in
     seen_fits types own (judged types tracks own) p.object p.formal path (front_kind types tracks own path.root lt) (front_borrows types tracks own path.root lt) of_record tracks.first tracks.components (stand types tracks own p)
+
+pub path_fits : (types : List TypeForm) (tracks : Tracks) (own : List VariableForm) → TracksComponents types tracks own → (path : PathForm) → PathIsSimple tracks.first path → PathIsOfRecord path → PathFits types own (judged types tracks own) path (seen tracks path)
+path_fits types tracks own p path simple of_record = inside_fits types tracks own p path (within tracks.first path.root path.selectors simple) of_record

@@ -41,12 +41,16 @@ abbrev pub ConditionIsOrderly : Tracks → Option ExpressionForm → Type 0
 ConditionIsOrderly tracks None = Unit {0}
 ConditionIsOrderly tracks (Some e) = ExpressionIsOrderly tracks e
 
+-- A way to a record that is copied is so too, or it is the formal parameter itself, which is a record object.
+abbrev pub WayIsOrderly : Tracks → PathForm → Type 0
+WayIsOrderly tracks path = (path.root < tracks.first) × (path.root ≡ 0 → path.of_record ≡ true)
+
 -- Those of an item are, and so is the way to a record that it copies.
 abbrev pub ItemIsOrderly : Tracks → ItemForm → Type 0
 ItemIsOrderly tracks null_item = Unit {0}
 ItemIsOrderly tracks (item_of_path path) = PathIsOrderly tracks path
 ItemIsOrderly tracks (item_of_value e) = ExpressionIsOrderly tracks e
-ItemIsOrderly tracks (item_of_record p) = PathIsOrderly tracks p.object
+ItemIsOrderly tracks (item_of_record p) = WayIsOrderly tracks p.object
 
 -- Those of all of these items are.
 abbrev pub ItemsAreOrderly : Tracks → List ItemForm → Type 0

@@ -1,40 +1,25 @@
 -- Bodies of an Adjust whose components of access types are tracked (7.6): they allocate objects without controlled parts, and free some where they may, move
--- and follow, call nothing, copy no record but into what they allocate, from another object than that of the formal parameter, and declare variables alone.
--- Flow judges such a body as one that has a variable for each of those components.
+-- and follow, call nothing, copy no record but into what they allocate, and declare variables alone. Flow judges such a body as one that has a variable for each
+-- of those components.
 
-use Rattle.std.specs.Prelude.{ℕ, zero, suc, Bool, true, false, ◌&&◌, List, [], ◌∷◌, drop, Option, Some, None}
+use Rattle.std.specs.Prelude.{Bool, true, false, ◌&&◌, List, drop, Option, Some, None}
 use Rattle.std.specs.List.{list_all, slice_get}
-use Rattle.ada_program.specs.Form.{ItemForm, null_item, item_of_path, item_of_value, item_of_record, RightForm, nothing, value_of, allocates, allocates_default, computes, StmtForm, skips, assigns, assigns_record, frees, gets, writes, writes_text, chooses, repeats, counts, exits, calls, returns, raises, encloses, StmtsForm, no_stmts, a_stmt, BranchesForm, otherwise, a_branch, HandlersForm, no_handlers, a_handler, DeclarationForm, creates_pool, collects, declares, declares_record}
+use Rattle.ada_program.specs.Form.{RightForm, nothing, value_of, allocates, allocates_default, computes, StmtForm, skips, assigns, assigns_record, frees, gets, writes, writes_text, chooses, repeats, counts, exits, calls, returns, raises, encloses, StmtsForm, no_stmts, a_stmt, BranchesForm, otherwise, a_branch, HandlersForm, no_handlers, a_handler, DeclarationForm, creates_pool, collects, declares, declares_record}
 use Rattle.ada_program.specs.declared.program.ProcedureNo.{ProcedureNo}
 use Rattle.ada_program.specs.declared.program.VariableKind.{VariableKind}
 use Rattle.ada_program.specs.declared.program.VariableKind.TheVariants as variable
 use Rattle.ada_program.specs.ProgramForm.{TypeForm, BodyForm, ProgramForm}
 use Rattle.ada_quiet.specs.Bare.{has_bare_objects}
 
--- A path leads into another object than that of the formal parameter, which is the first variable: it begins with another one, or follows what lies there
--- (4.1).
-abbrev pub leads_elsewhere : (root : ℕ) → (selectors : List ℕ) → Bool
-leads_elsewhere zero [] = false
-leads_elsewhere zero (c ∷ cs) = true
-leads_elsewhere (suc x) cs = true
-
--- An item of an aggregate copies no record out of the object of the formal parameter (4.3.1).
-abbrev pub is_plain_item : ItemForm → Bool
-is_plain_item null_item = true
-is_plain_item (item_of_path path) = true
-is_plain_item (item_of_value e) = true
-is_plain_item (item_of_record path) = leads_elsewhere path.object.root path.object.selectors
-
--- Nor does what is assigned (5.2), where it is a new object with items for its components (4.8); and that has no controlled parts.
+-- What is assigned (5.2) is no new object (4.8), or one without controlled parts.
 abbrev pub is_simple_right : List TypeForm → RightForm → Bool
 is_simple_right types nothing = true
 is_simple_right types (value_of path) = true
-is_simple_right types (allocates access items) = has_bare_objects types access && list_all is_plain_item items
+is_simple_right types (allocates access items) = has_bare_objects types access
 is_simple_right types (allocates_default access) = has_bare_objects types access
 is_simple_right types (computes e) = true
 
--- A declaration is that of a variable (3.3.1), and what that is given at first copies such records alone: no record object, no collection and no pool is
--- created.
+-- A declaration is that of a variable (3.3.1), and what that is given at first is so: no record object, no collection and no pool is created.
 abbrev pub is_simple_declaration : List TypeForm → DeclarationForm → Bool
 is_simple_declaration types (creates_pool p) = false
 is_simple_declaration types (collects access) = false
@@ -48,8 +33,8 @@ are_simple_declarations types ds = list_all (is_simple_declaration types) ds
 -- Where the bodies may free objects, or where not.
 module _ (types : List TypeForm) (may_free : Bool) where
   abbrev mutual
-    -- A statement assigns to no record as a whole (5.2), copies such records alone, allocates and frees no object with controlled parts (4.8, 13.11.2), frees
-    -- none where it may not, and calls nothing (6.4).
+    -- A statement assigns to no record as a whole (5.2), allocates and frees no object with controlled parts (4.8, 13.11.2), frees none where it may not, and
+    -- calls nothing (6.4).
     pub is_simple_stmt : StmtForm → Bool
     is_simple_stmt skips = true
     is_simple_stmt (assigns target right) = is_simple_right types right

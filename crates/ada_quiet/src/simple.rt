@@ -1,10 +1,10 @@
 //! Declarations, statements and bodies, where they are simple: they allocate objects without controlled parts (7.6, 4.8), and free some
-//! where they may (13.11.2), move and follow, call nothing (6.4), copy no record (5.2) but into what they allocate, from another object
-//! than that of the formal parameter, and declare no more than variables.
+//! where they may (13.11.2), move and follow, call nothing (6.4), copy no record (5.2) but into what they allocate, and declare no more
+//! than variables.
 
 ghost use Rattle.std.specs.Prelude.{◌≡◌, ◌&&◌, drop, map};
 ghost use Rattle.std.specs.List.{list_all};
-ghost use Rattle.ada_program.specs.Form.{StmtsForm, branches_form, declaration_form, handlers_form, initial_form, item_form, path_form, right_form, stmt_form, stmts_form};
+ghost use Rattle.ada_program.specs.Form.{StmtsForm, branches_form, declaration_form, handlers_form, initial_form, right_form, stmt_form, stmts_form};
 ghost use Rattle.ada_program.specs.Kept.{types_in, variables_in};
 ghost use Rattle.ada_program.specs.ProgramForm.{body_form};
 ghost use Rattle.ada_quiet.specs.Simple as rules;
@@ -12,51 +12,17 @@ ghost use Rattle.ada_quiet.specs.Simple as rules;
 use crate::bare::has_bare_objects;
 use ada_program::Stmt;
 use ada_program::program::{
-    Branch, Declaration, Handler, Item, Path, Procedure, Right, TypeDefinition, Variable,
-    VariableKind,
+    Branch, Declaration, Handler, Procedure, Right, TypeDefinition, Variable, VariableKind,
 };
 
-/// Whether a path leads into another object than that of the formal parameter, which is the first variable: it begins with another one,
-/// or follows what lies there (4.1).
-fn leads_elsewhere(path: &Path) -> bool
-    ensures { result ≡ rules.leads_elsewhere (path_form path.now).root (path_form path.now).selectors }
-{
-    path.root.0 != 0 || !path.selectors.is_empty()
-}
-
-/// Whether an item of an aggregate copies no record out of the object of the formal parameter (4.3.1).
-fn is_plain_item(item: &Item) -> bool
-    ensures { result ≡ rules.is_plain_item (item_form item.now) }
-{
-    match item {
-        Item::Null | Item::Path(_) | Item::Value(_) => true,
-        Item::Record(path) => leads_elsewhere(&path.object),
-    }
-}
-
-/// Whether each of these items of an aggregate is such a one.
-fn are_plain_items(items: &[Item]) -> bool
-    ensures { result ≡ list_all rules.is_plain_item (map item_form items.now) }
-{
-    'items: for item in items {
-        if !is_plain_item(item) {
-            return false;
-        }
-    }
-    true
-}
-
-/// Whether what is assigned is no new object, or one without controlled parts, whose items copy no record out of the object of the formal
-/// parameter (4.8, 5.2).
+/// Whether what is assigned is no new object, or one without controlled parts (4.8, 5.2).
 fn is_simple_right(types: &[TypeDefinition], right: &Right) -> bool
     ensures { result ≡ rules.is_simple_right (types_in types.now) (right_form right.now) }
 {
     match right {
         Right::Null | Right::Path(_) | Right::Value(_) => true,
         Right::Default(access) => has_bare_objects(types, *access),
-        Right::Allocator { access, items } => {
-            has_bare_objects(types, *access) && are_plain_items(items)
-        }
+        Right::Allocator { access, items: _ } => has_bare_objects(types, *access),
     }
 }
 
@@ -95,9 +61,8 @@ fn are_simple_declarations(types: &[TypeDefinition], declarations: &[Declaration
     true
 }
 
-/// Whether a statement assigns to no record as a whole (5.2), copies none out of the object of the formal parameter, allocates and frees no
-/// object with controlled parts (4.8, 13.11.2), and calls nothing (6.4), where objects may be freed; where they may not, whether it also
-/// frees none.
+/// Whether a statement assigns to no record as a whole (5.2), allocates and frees no object with controlled parts (4.8, 13.11.2), and calls
+/// nothing (6.4), where objects may be freed; where they may not, whether it also frees none.
 #[cycle(statements)]
 #[tactic(auto, using(std::proofs::lemmas::Grind::common_steps, ada_program::specs::Form::statement_rules))]
 fn is_simple_stmt(types: &[TypeDefinition], may_free: bool, statement: &Stmt) -> bool
@@ -216,8 +181,8 @@ fn others_hold_one_value(variables: &[Variable]) -> bool
 }
 
 /// Whether a body is simple: it allocates objects without controlled parts, and frees some where objects may be freed, moves and
-/// follows; it calls nothing, copies no record but into what it allocates, from another object than that of the formal parameter, and
-/// declares variables alone, none of them a record. An exception may come out of it. Linear in the body.
+/// follows; it calls nothing, copies no record but into what it allocates, and declares variables alone, none of them a record. An
+/// exception may come out of it. Linear in the body.
 pub(crate) fn is_simple_body(
     types: &[TypeDefinition],
     may_free: bool,

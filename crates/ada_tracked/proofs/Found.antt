@@ -1,6 +1,7 @@
 -- Where a path leads: the object to which it goes, and what lies there.
 
-use Rattle.std.proofs.Common.{◌≡◌, ℕ, ◌<◌, Bool, false, List, [], ◌∷◌, ◌++◌, length, Option, Some, None, refl, sym, ap, ◌∙◌, subst}
+use Rattle.std.proofs.Common.{◌≡◌, ℕ, ◌+◌, ◌<◌, Bool, true, false, List, [], ◌∷◌, ◌++◌, length, Option, Some, None, refl, sym, ap, ◌∙◌, inl, inr, subst}
+use Rattle.std.specs.Prelude.{is_some}
 use Rattle.std.specs.List.{slice_get, slice_index_or}
 use Rattle.ada_program.specs.declared.program.TypeDefinition.{TypeDefinition}
 use Rattle.ada_program.specs.declared.program.Exception.TheVariants.{ConstraintError}
@@ -15,13 +16,15 @@ use Rattle.ada_meaning.specs.State.{Activation}
 use Rattle.ada_meaning.specs.Heap.{Cell, Found, on_null, on_gone, on_other, finds}
 use Rattle.ada_meaning.specs.Step.{moves, at, raised, computed, set_operands, in_front, record_in, operands, reading, component_next, follow_next, path_next, selected, before_last, last_of, copied_next, copies_next}
 use Rattle.ada_meaning.specs.Named.{Object, State, Next, named, look, whole, inside, next}
-use Rattle.ada_tracked.specs.Frames.{View, watched, number_of, blanked, tracked_values, standing}
-use Rattle.ada_tracked.specs.Seen.{IsOther, awaits_holder, HoldersAreOther, refers, AreNoReferences, seen_state, plainly, following, IsWatched}
+use Rattle.ada_meaning.proofs.Records.{record_same}
+use Rattle.ada_tracked.specs.Frames.{View, watched, number_of, blank_values, blanked, tracked_values, standing}
+use Rattle.ada_tracked.specs.Seen.{leads_to, awaits_holder, HoldersAreOther, refers, AreNoReferences, seen_state, plainly, following, IsWatched}
 use Rattle.ada_tracked.specs.Looking.{LandsElsewhere, HoldsElsewhere, LeadsElsewhere}
+use Rattle.ada_tracked.specs.Copying.{AreNoneOf, is_tracked_at}
 use Rattle.ada_tracked.specs.Law.{Matches, same, followed, IsSilent, Goes, both, alone, Shown}
 use Rattle.ada_tracked.specs.Law as law
-use Rattle.ada_tracked.proofs.Lists.{clear, landed, untracked_read, tracked_below, tracked_read, tracked_no_reference, read_within}
-use Rattle.ada_tracked.proofs.Heaps.{other_names, values_there, look_apart, look_there, look_blanked}
+use Rattle.ada_tracked.proofs.Lists.{same_number, clear, landed, untracked_read, tracked_below, tracked_read, tracked_no_reference, read_within}
+use Rattle.ada_tracked.proofs.Heaps.{names, other_names, which, values_there, look_apart, look_there, look_blanked}
 
 -- A state in which a body runs.
 abbrev pub running : Activation Value → List (Activation Value) → State → State
@@ -52,6 +55,11 @@ inside_self (Part o place) c e = absurd (cc)
 pub selected_self : (v : Value) (cs : List ℕ) → refers v ≡ false → selected named v cs ≡ cs
 selected_self v [] e = refl
 selected_self v (c ∷ cs) e = ap (λ (d : ℕ). d ∷ cs) (inside_self v c e)
+
+-- A component that is not tracked has no number.
+no_number : (found : Option ℕ) → is_some found ≡ false → found ≡ None
+no_number None e = refl
+no_number (Some x) e = absurd (cc)
 
 -- What a path names, by what its variable holds.
 abbrev pub named_by : List ℕ → Value → State → Next
@@ -97,7 +105,7 @@ module _ (types : List TypeDefinition) (bodies : List BodyForm) (w : View) where
       (sym (look_apart w s.heap p.object p.at_object v (other_names w.object v leads.0)))
       (follow_shown t v c cs (look s.heap v) a rest s (holds_ends w.object s.heap (awaits_holder s.control) v c cs leads.1))
 
-  -- A record is copied that lies in another object.
+  -- A record is copied.
   copied_shown : (t : State) (v : Value) (found : Option (List Value)) (a : Activation Value) (rest : List (Activation Value)) (s : State) → awaits_holder s.control ≡ false → Shown types bodies w t (copied_next named v found (running a rest s)) (copied_next named v found (seen_state w (running a rest s)))
   copied_shown t v None a rest s calm = refl
   copied_shown t v (Some vs) a rest s calm = idly t (Followed v) (set_operands (in_front vs a.operands) (running a rest s)) calm
@@ -108,11 +116,33 @@ module _ (types : List TypeDefinition) (bodies : List BodyForm) (w : View) where
   copies_found t v c count on_other a rest s calm = refl
   copies_found t v c count (finds cell) a rest s calm = copied_shown t v (record_in cell.values c count) a rest s calm
 
-  pub copies_shown : (t : State) (v : Value) (c count : ℕ) (a : Activation Value) (rest : List (Activation Value)) (s : State) → IsOther w.object v → IsWatched w a.places s.heap → awaits_holder s.control ≡ false → Shown types bodies w t (copies_next named v c count (look s.heap v) (running a rest s)) (copies_next named v c count (look (blanked w s.heap) v) (seen_state w (running a rest s)))
-  copies_shown t v c count a rest s other p calm =
+  -- From another object than this one,
+  copies_other : (t : State) (v : Value) (c count : ℕ) (a : Activation Value) (rest : List (Activation Value)) (s : State) → names w.object v ≡ false → IsWatched w a.places s.heap → awaits_holder s.control ≡ false → Shown types bodies w t (copies_next named v c count (look s.heap v) (running a rest s)) (copies_next named v c count (look (blanked w s.heap) v) (seen_state w (running a rest s)))
+  copies_other t v c count a rest s other p calm =
       subst (λ (found : Found (Cell Value)). Shown types bodies w t (copies_next named v c count (look s.heap v) (running a rest s)) (copies_next named v c count found (seen_state w (running a rest s))))
-      (sym (look_apart w s.heap p.object p.at_object v (other_names w.object v other)))
+      (sym (look_apart w s.heap p.object p.at_object v other))
       (copies_found t v c count (look s.heap v) a rest s calm)
+
+  -- or from this one, if no component that is copied is tracked.
+  copies_itself : (t : State) (c count : ℕ) (a : Activation Value) (rest : List (Activation Value)) (s : State) → AreNoneOf (is_tracked_at w) c count → IsWatched w a.places s.heap → awaits_holder s.control ≡ false → Shown types bodies w t (copies_next named (Names w.object) c count (look s.heap (Names w.object)) (running a rest s)) (copies_next named (Names w.object) c count (look (blanked w s.heap) (Names w.object)) (seen_state w (running a rest s)))
+  copies_itself t c count a rest s none p calm =
+      let vs = p.object.cell.values in
+      let same : record_in (blank_values (watched w) vs) c count ≡ record_in vs c count =
+      record_same (blank_values (watched w) vs) vs c count (λ i lt. untracked_read (watched w) w.tracks.first (c + i) vs (no_number (number_of w (c + i)) (none i lt))) in
+      subst (λ (found : Found (Cell Value)). Shown types bodies w t (copies_next named (Names w.object) c count found (running a rest s)) (copies_next named (Names w.object) c count (look (blanked w s.heap) (Names w.object)) (seen_state w (running a rest s))))
+      (sym (look_there w s.heap p.object p.at_object p.existing))
+      (subst (λ (found : Found (Cell Value)). Shown types bodies w t (copied_next named (Names w.object) (record_in vs c count) (running a rest s)) (copies_next named (Names w.object) c count found (seen_state w (running a rest s))))
+      (sym (look_blanked w s.heap p.object p.at_object p.existing))
+      (subst (λ (found : Option (List Value)). Shown types bodies w t (copied_next named (Names w.object) (record_in vs c count) (running a rest s)) (copied_next named (Names w.object) found (seen_state w (running a rest s))))
+      (sym same)
+      (copied_shown t (Names w.object) (record_in vs c count) a rest s calm)))
+
+  pub copies_shown : (t : State) (v : Value) (c count : ℕ) (a : Activation Value) (rest : List (Activation Value)) (s : State) → (leads_to w.object v ≡ true → AreNoneOf (is_tracked_at w) c count) → IsWatched w a.places s.heap → awaits_holder s.control ≡ false → Shown types bodies w t (copies_next named v c count (look s.heap v) (running a rest s)) (copies_next named v c count (look (blanked w s.heap) v) (seen_state w (running a rest s)))
+  copies_shown t v c count a rest s none p calm = elim (which w.object v) [
+    | inl other ↦ copies_other t v c count a rest s other p calm
+    | inr itself ↦ subst (λ (u : Value). Shown types bodies w t (copies_next named u c count (look s.heap u) (running a rest s)) (copies_next named u c count (look (blanked w s.heap) u) (seen_state w (running a rest s))))
+        (sym itself) (copies_itself t c count a rest s (none (ap (leads_to w.object) itself ∙ same_number w.object.0)) p calm)
+  ]
 
   -- The object itself, from a component that is not tracked.
   pub untracked_path : (t : State) (b : ℕ) (cs : List ℕ) (a : Activation Value) (rest : List (Activation Value)) (s : State) → IsWatched w a.places s.heap → number_of w b ≡ None → HoldsElsewhere w.object s.heap (awaits_holder s.control) (Names w.object) b cs → Shown types bodies w t (path_next named (b ∷ cs) (Names w.object) (running a rest s)) (path_next named (b ∷ cs) (Names w.object) (seen_state w (running a rest s)))

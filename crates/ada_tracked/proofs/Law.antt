@@ -19,6 +19,7 @@ use Rattle.ada_tracked.specs.Frames.{View, number_of, seen_frame, seen_control, 
 use Rattle.ada_tracked.specs.Simple.{FrameIsSimple}
 use Rattle.ada_tracked.specs.Seen.{HoldersAreOther, seen_state, Waiting, assigning, getting, freeing, waiting_frame, waiting_statement, variable_path, Seen, plainly, following, elsewhere, behind, IsWatched}
 use Rattle.ada_tracked.specs.Looking.{LooksElsewhere}
+use Rattle.ada_tracked.specs.Copying.{CopiesNone, is_tracked_at}
 use Rattle.ada_tracked.specs.Law.{NextIsSimple, Shown, TrackedComponentsRunAsVariables}
 use Rattle.ada_tracked.proofs.Found.{running, path_shown}
 use Rattle.ada_tracked.proofs.Storing.{target_elsewhere, target_behind}
@@ -81,28 +82,28 @@ seen_first w (frame.ClearsIn o c) k simple = refl
 
 module _ (types : List TypeDefinition) (bodies : List BodyForm) (w : View) where
   -- Where the state stands plainly.
-  plainly_by : (m : Mode) (a : Activation Value) (rest : List (Activation Value)) (k : List (Frame Value)) (s : State) → IsWatched w a.places s.heap → NextIsSimple w k s.masters → LooksElsewhere w (of_parts m (a ∷ rest) k s) → HoldersAreOther w.object m k a.operands → Shown types bodies w (seen_state w (of_parts m (a ∷ rest) k s)) (next types bodies (of_parts m (a ∷ rest) k s)) (next types bodies (seen_state w (of_parts m (a ∷ rest) k s)))
+  plainly_by : (m : Mode) (a : Activation Value) (rest : List (Activation Value)) (k : List (Frame Value)) (s : State) → IsWatched w a.places s.heap → NextIsSimple w k s.masters → LooksElsewhere w (of_parts m (a ∷ rest) k s) → CopiesNone types w.object (is_tracked_at w) (of_parts m (a ∷ rest) k s) → HoldersAreOther w.object m k a.operands → Shown types bodies w (seen_state w (of_parts m (a ∷ rest) k s)) (next types bodies (of_parts m (a ∷ rest) k s)) (next types bodies (seen_state w (of_parts m (a ∷ rest) k s)))
   unfolding next
-  plainly_by Running a rest [] s p simple looks others = refl
-  plainly_by Running a rest (f ∷ k) s p simple looks others =
+  plainly_by Running a rest [] s p simple looks copies others = refl
+  plainly_by Running a rest (f ∷ k) s p simple looks copies others =
       subst (λ (l : List (Frame Value)). Shown types bodies w (seen_state w (at (f ∷ k) (running a rest s))) (frame_next named types bodies f (at k (running a rest s))) (mode_next named types bodies Running (at l (seen_state w (running a rest s)))))
-      (sym (seen_first w f k simple.0)) (frame_shown types bodies w f k a rest s simple.0 simple.1 p looks others)
-  plainly_by (Raising e) a rest [] s p simple looks others = refl
-  plainly_by (Raising e) a rest (f ∷ k) s p simple looks others =
+      (sym (seen_first w f k simple.0)) (frame_shown types bodies w f k a rest s simple.0 simple.1 p looks copies others)
+  plainly_by (Raising e) a rest [] s p simple looks copies others = refl
+  plainly_by (Raising e) a rest (f ∷ k) s p simple looks copies others =
       subst (λ (l : List (Frame Value)). Shown types bodies w (seen_state w (of_parts (Raising e) (a ∷ rest) (f ∷ k) s)) (jump_at (Raising e) f (of_parts (Raising e) (a ∷ rest) k s)) (mode_next named types bodies (Raising e) (at l (seen_state w (of_parts (Raising e) (a ∷ rest) k s)))))
       (sym (seen_first w f k simple.0)) (jump_shown types bodies w (seen_state w (of_parts (Raising e) (a ∷ rest) (f ∷ k) s)) (Raising e) f a rest (of_parts (Raising e) (a ∷ rest) k s) simple.0 looks)
-  plainly_by Exiting a rest [] s p simple looks others = refl
-  plainly_by Exiting a rest (f ∷ k) s p simple looks others =
+  plainly_by Exiting a rest [] s p simple looks copies others = refl
+  plainly_by Exiting a rest (f ∷ k) s p simple looks copies others =
       subst (λ (l : List (Frame Value)). Shown types bodies w (seen_state w (of_parts Exiting (a ∷ rest) (f ∷ k) s)) (jump_at Exiting f (of_parts Exiting (a ∷ rest) k s)) (mode_next named types bodies Exiting (at l (seen_state w (of_parts Exiting (a ∷ rest) k s)))))
       (sym (seen_first w f k simple.0)) (jump_shown types bodies w (seen_state w (of_parts Exiting (a ∷ rest) (f ∷ k) s)) Exiting f a rest (of_parts Exiting (a ∷ rest) k s) simple.0 looks)
-  plainly_by Returning a rest [] s p simple looks others = refl
-  plainly_by Returning a rest (f ∷ k) s p simple looks others =
+  plainly_by Returning a rest [] s p simple looks copies others = refl
+  plainly_by Returning a rest (f ∷ k) s p simple looks copies others =
       subst (λ (l : List (Frame Value)). Shown types bodies w (seen_state w (of_parts Returning (a ∷ rest) (f ∷ k) s)) (jump_at Returning f (of_parts Returning (a ∷ rest) k s)) (mode_next named types bodies Returning (at l (seen_state w (of_parts Returning (a ∷ rest) k s)))))
       (sym (seen_first w f k simple.0)) (jump_shown types bodies w (seen_state w (of_parts Returning (a ∷ rest) (f ∷ k) s)) Returning f a rest (of_parts Returning (a ∷ rest) k s) simple.0 looks)
 
-  plainly_shown : (activations : List (Activation Value)) (s : State) → IsWatched w (places_of activations) s.heap → NextIsSimple w s.control s.masters → LooksElsewhere w (record s { activations = activations }) → HoldersAreOther w.object s.mode s.control (operands_of activations) → Shown types bodies w (seen_state w (record s { activations = activations })) (next types bodies (record s { activations = activations })) (next types bodies (seen_state w (record s { activations = activations })))
-  plainly_shown [] s p simple looks others = absurd p.formal
-  plainly_shown (a ∷ rest) s p simple looks others = plainly_by s.mode a rest s.control s p simple looks others
+  plainly_shown : (activations : List (Activation Value)) (s : State) → IsWatched w (places_of activations) s.heap → NextIsSimple w s.control s.masters → LooksElsewhere w (record s { activations = activations }) → CopiesNone types w.object (is_tracked_at w) (record s { activations = activations }) → HoldersAreOther w.object s.mode s.control (operands_of activations) → Shown types bodies w (seen_state w (record s { activations = activations })) (next types bodies (record s { activations = activations })) (next types bodies (seen_state w (record s { activations = activations })))
+  plainly_shown [] s p simple looks copies others = absurd p.formal
+  plainly_shown (a ∷ rest) s p simple looks copies others = plainly_by s.mode a rest s.control s p simple looks copies others
 
   -- Where the real state has found a value already.
   following_by : (t : State) (c : ℕ) (cs : List ℕ) (k : List (Frame Value)) (activations : List (Activation Value)) (s : State) → IsWatched w (places_of activations) s.heap → LooksElsewhere w (of_parts Running activations (frame.Follows (c ∷ cs) ∷ k) s) → Shown types bodies w t (next types bodies (of_parts Running activations (frame.Follows (c ∷ cs) ∷ k) s)) (next types bodies (seen_state w (of_parts Running activations (frame.Follows (c ∷ cs) ∷ k) s)))
@@ -156,21 +157,21 @@ module _ (types : List TypeDefinition) (bodies : List BodyForm) (w : View) where
       (subst (λ (us : List Value). LooksElsewhere w (of_parts Running (record a { operands = us } ∷ rest) (waiting_frame waiting c ∷ frame.Does fs ∷ k) s) → Shown types bodies w (beginning waiting x spot fs k vs (of_parts Running (record a { operands = us } ∷ rest) (waiting_frame waiting c ∷ frame.Does fs ∷ k) s)) (next types bodies (of_parts Running (record a { operands = us } ∷ rest) (waiting_frame waiting c ∷ frame.Does fs ∷ k) s)) (next types bodies (beginning waiting x spot fs k vs (of_parts Running (record a { operands = us } ∷ rest) (waiting_frame waiting c ∷ frame.Does fs ∷ k) s)))) (sym operands_are)
       (behind_by waiting c x spot fs k vs a rest s p is)))
 
-  step_shown : (s t : State) → Seen types bodies w s t → IsWatched w (places s) s.heap → LooksElsewhere w s → NextIsSimple w s.control s.masters → Shown types bodies w t (next types bodies s) (next types bodies t)
-  step_shown s t (plainly others is) p looks simple =
-      subst (λ (u : State). Shown types bodies w u (next types bodies s) (next types bodies u)) (sym is) (plainly_shown s.activations s p simple looks others)
-  step_shown s t (following c cs k running_is control_is l vs stands goes_on) p looks simple =
+  step_shown : (s t : State) → Seen types bodies w s t → IsWatched w (places s) s.heap → LooksElsewhere w s → CopiesNone types w.object (is_tracked_at w) s → NextIsSimple w s.control s.masters → Shown types bodies w t (next types bodies s) (next types bodies t)
+  step_shown s t (plainly others is) p looks copies simple =
+      subst (λ (u : State). Shown types bodies w u (next types bodies s) (next types bodies u)) (sym is) (plainly_shown s.activations s p simple looks copies others)
+  step_shown s t (following c cs k running_is control_is l vs stands goes_on) p looks copies simple =
       subst (λ (n : Next). Shown types bodies w t (next types bodies s) n) (sym goes_on) (following_shown t c cs k s.mode s.control s running_is control_is p looks)
-  step_shown s t (elsewhere waiting c k vs running_is control_is operands_are none is) p looks simple =
+  step_shown s t (elsewhere waiting c k vs running_is control_is operands_are none is) p looks copies simple =
       subst (λ (u : State). Shown types bodies w u (next types bodies s) (next types bodies u)) (sym is)
       (elsewhere_shown waiting c k vs s.mode s.control s.activations s running_is control_is operands_are p none looks)
-  step_shown s t (behind waiting c x spot fs k vs running_is control_is operands_are is stands) p looks simple =
+  step_shown s t (behind waiting c x spot fs k vs running_is control_is operands_are is stands) p looks copies simple =
       subst (λ (u : State). Shown types bodies w u (next types bodies s) (next types bodies u)) (sym stands)
       (behind_shown waiting c x spot fs k vs s.mode s.control s.activations s running_is control_is operands_are p is looks)
 
 -- The law.
 pub runs_as_variables : TrackedComponentsRunAsVariables
-runs_as_variables types bodies w s t seen p looks simple = step_shown types bodies w s t seen p looks simple
+runs_as_variables types bodies w s t seen p looks copies simple = step_shown types bodies w s t seen p looks copies simple
 
 -- Where the body comes to its end, the state stands plainly.
 not_waiting : (waiting : Waiting) (c : ℕ) (actuals : List ActualForm) (references : List Value) (k l : List (Frame Value)) → waiting_frame waiting c ∷ k ≡ frame.Returns actuals references ∷ l → ⊥

@@ -23,7 +23,7 @@ use Rattle.ada_tracked.specs.Seen.{awaits_holder, refers, seen_state, Waiting, a
 use Rattle.ada_tracked.specs.Looking.{StartsElsewhere, HoldsElsewhere, LeadsElsewhere, HolderIsElsewhere}
 use Rattle.ada_tracked.specs.Law.{same, quiet, both, alone, Shown}
 use Rattle.ada_tracked.proofs.Lists.{read_front}
-use Rattle.ada_tracked.proofs.Paths.{Begins, apart, untracked, tracked, begins, within, formal}
+use Rattle.ada_tracked.proofs.Paths.{Begins, apart, itself, untracked, tracked, begins, within, formal}
 use Rattle.ada_tracked.proofs.Found.{running, whole_self, inside_self, selected_self, named_by, holder_by, Stays, path_shown, untracked_path, value_at, value_plain, value_held, tracked_path}
 
 -- What waits, as it is judged.
@@ -94,15 +94,24 @@ behind_formal o h base c (d ∷ ds) v place is at_base holder =
 
 module _ (types : List TypeDefinition) (bodies : List BodyForm) (w : View) where
   -- A path from another variable.
-  pub named_other : (t : State) (path : PathForm) (a : Activation Value) (rest : List (Activation Value)) (s : State) → PathIsSimple w.tracks.first path → (0 < path.root) → IsWatched w a.places s.heap → StartsElsewhere w.object path.root path.selectors (slice_index_or a.places path.root Null) → awaits_holder s.control ≡ false → Shown types bodies w t (named_next named path.selectors path.root (running a rest s)) (named_next named path.selectors path.root (seen_state w (running a rest s)))
-  named_other t path a rest s simple lt p starts calm =
+  pub named_other : (t : State) (path : PathForm) (a : Activation Value) (rest : List (Activation Value)) (s : State) → path.root < w.tracks.first → (0 < path.root) → IsWatched w a.places s.heap → StartsElsewhere w.object path.root path.selectors (slice_index_or a.places path.root Null) → awaits_holder s.control ≡ false → Shown types bodies w t (named_next named path.selectors path.root (running a rest s)) (named_next named path.selectors path.root (seen_state w (running a rest s)))
+  named_other t path a rest s inside lt p starts calm =
       let v = slice_index_or a.places path.root Null in
-      let in_places : path.root < length a.places = subst (λ (n : ℕ). path.root < n) (sym p.count) (within w.tracks.first path.root path.selectors simple) in
+      let in_places : path.root < length a.places = subst (λ (n : ℕ). path.root < n) (sym p.count) inside in
       subst (λ (u : Value). Shown types bodies w t (named_by path.selectors v (running a rest s)) (named_by path.selectors u (seen_state w (running a rest s))))
       (sym (read_front a.places (tracked_values w s.heap) path.root Null in_places))
       (path_shown types bodies w t (selected named v path.selectors) (whole v) a rest s p
       (subst (λ (awaits : Bool). LeadsElsewhere w.object s.heap awaits (selected named v path.selectors) (whole v)) (sym calm)
       (starts_leads w.object s.heap path.root path.selectors v lt starts)))
+
+  -- The formal parameter itself, where nothing waits for its object.
+  named_alone : (t : State) (a : Activation Value) (rest : List (Activation Value)) (s : State) → (0 < w.tracks.first) → IsWatched w a.places s.heap → awaits_holder s.control ≡ false → Shown types bodies w t (named_next named [] 0 (running a rest s)) (named_next named [] 0 (seen_state w (running a rest s)))
+  named_alone t a rest s lt p calm =
+      let v = slice_index_or a.places 0 Null in
+      let in_places : 0 < length a.places = subst (λ (n : ℕ). 0 < n) (sym p.count) lt in
+      subst (λ (u : Value). Shown types bodies w t (named_by [] v (running a rest s)) (named_by [] u (seen_state w (running a rest s))))
+      (sym (read_front a.places (tracked_values w s.heap) 0 Null in_places))
+      (path_shown types bodies w t [] (whole v) a rest s p (subst (λ (awaits : Bool). LeadsElsewhere w.object s.heap awaits [] (whole v)) (sym calm) tt))
 
   -- One from the formal parameter, to a component that is not tracked.
   named_formal : (t : State) (c : ℕ) (cs : List ℕ) (a : Activation Value) (rest : List (Activation Value)) (s : State) → (0 < w.tracks.first) → number_of w (w.base + c) ≡ None → IsWatched w a.places s.heap → awaits_holder s.control ≡ false → Shown types bodies w t (named_next named (c ∷ cs) 0 (running a rest s)) (named_next named (c ∷ cs) 0 (seen_state w (running a rest s)))
@@ -135,19 +144,27 @@ module _ (types : List TypeDefinition) (bodies : List BodyForm) (w : View) where
       (tracked_path types bodies w t (w.base + c) x cs a rest s p is (holds_calmly w.object s.heap s.control (Names w.object) (w.base + c) cs calm) (stays.0, stays.1, stays.2, stays.3 ∙ goes))))
 
   -- What a path names, however it begins.
-  by_begins : (t : State) (path : PathForm) (a : Activation Value) (rest : List (Activation Value)) (s : State) → PathIsSimple w.tracks.first path → IsWatched w a.places s.heap → StartsElsewhere w.object path.root path.selectors (slice_index_or a.places path.root Null) → awaits_holder s.control ≡ false → Stays types bodies w (running a rest s) t (named_next named (seen w.tracks path).selectors (seen w.tracks path).root (seen_state w (running a rest s))) → Begins w path → Shown types bodies w t (named_next named path.selectors path.root (running a rest s)) (named_next named (seen w.tracks path).selectors (seen w.tracks path).root (seen_state w (running a rest s)))
-  by_begins t path a rest s simple p starts calm stays (apart lt kept) =
+  by_begins : (t : State) (path : PathForm) (a : Activation Value) (rest : List (Activation Value)) (s : State) → path.root < w.tracks.first → IsWatched w a.places s.heap → StartsElsewhere w.object path.root path.selectors (slice_index_or a.places path.root Null) → awaits_holder s.control ≡ false → Stays types bodies w (running a rest s) t (named_next named (seen w.tracks path).selectors (seen w.tracks path).root (seen_state w (running a rest s))) → Begins w path → Shown types bodies w t (named_next named path.selectors path.root (running a rest s)) (named_next named (seen w.tracks path).selectors (seen w.tracks path).root (seen_state w (running a rest s)))
+  by_begins t path a rest s inside p starts calm stays (apart lt kept) =
       subst (λ (q : PathForm). Shown types bodies w t (named_next named path.selectors path.root (running a rest s)) (named_next named q.selectors q.root (seen_state w (running a rest s))))
-      (sym kept) (named_other t path a rest s simple lt p starts calm)
-  by_begins t path a rest s simple p starts calm stays (untracked c cs root is none kept) =
-      let lt : 0 < w.tracks.first = subst (λ (x : ℕ). x < w.tracks.first) root (within w.tracks.first path.root path.selectors simple) in
+      (sym kept) (named_other t path a rest s inside lt p starts calm)
+  by_begins t path a rest s inside p starts calm stays (itself root is kept) =
+      let lt : 0 < w.tracks.first = subst (λ (x : ℕ). x < w.tracks.first) root inside in
+      subst (λ (q : PathForm). Shown types bodies w t (named_next named path.selectors path.root (running a rest s)) (named_next named q.selectors q.root (seen_state w (running a rest s))))
+      (sym kept)
+      (subst (λ (ds : List ℕ). Shown types bodies w t (named_next named ds path.root (running a rest s)) (named_next named ds path.root (seen_state w (running a rest s))))
+      (sym is)
+      (subst (λ (x : ℕ). Shown types bodies w t (named_next named [] x (running a rest s)) (named_next named [] x (seen_state w (running a rest s))))
+      (sym root) (named_alone t a rest s lt p calm)))
+  by_begins t path a rest s inside p starts calm stays (untracked c cs root is none kept) =
+      let lt : 0 < w.tracks.first = subst (λ (x : ℕ). x < w.tracks.first) root inside in
       subst (λ (q : PathForm). Shown types bodies w t (named_next named path.selectors path.root (running a rest s)) (named_next named q.selectors q.root (seen_state w (running a rest s))))
       (sym kept)
       (subst (λ (ds : List ℕ). Shown types bodies w t (named_next named ds path.root (running a rest s)) (named_next named ds path.root (seen_state w (running a rest s))))
       (sym is)
       (subst (λ (x : ℕ). Shown types bodies w t (named_next named (c ∷ cs) x (running a rest s)) (named_next named (c ∷ cs) x (seen_state w (running a rest s))))
       (sym root) (named_formal t c cs a rest s lt none p calm)))
-  by_begins t path a rest s simple p starts calm stays (tracked c cs x root is number moved) =
+  by_begins t path a rest s inside p starts calm stays (tracked c cs x root is number moved) =
       let goes : named_next named (seen w.tracks path).selectors (seen w.tracks path).root (seen_state w (running a rest s)) ≡ named_next named cs x (seen_state w (running a rest s)) =
       ap (λ (q : PathForm). named_next named q.selectors q.root (seen_state w (running a rest s))) moved in
       subst (λ (n : Next). Shown types bodies w t (named_next named path.selectors path.root (running a rest s)) n) (sym goes)
@@ -156,23 +173,32 @@ module _ (types : List TypeDefinition) (bodies : List BodyForm) (w : View) where
       (subst (λ (y : ℕ). Shown types bodies w t (named_next named (c ∷ cs) y (running a rest s)) (named_next named cs x (seen_state w (running a rest s))))
       (sym root) (named_tracked t c cs x a rest s number p calm (stays.0, stays.1, stays.2, stays.3 ∙ goes))))
 
-  pub named_shown : (t : State) (path : PathForm) (a : Activation Value) (rest : List (Activation Value)) (s : State) → PathIsSimple w.tracks.first path → IsWatched w a.places s.heap → StartsElsewhere w.object path.root path.selectors (slice_index_or a.places path.root Null) → awaits_holder s.control ≡ false → Stays types bodies w (running a rest s) t (named_next named (seen w.tracks path).selectors (seen w.tracks path).root (seen_state w (running a rest s))) → Shown types bodies w t (named_next named path.selectors path.root (running a rest s)) (named_next named (seen w.tracks path).selectors (seen w.tracks path).root (seen_state w (running a rest s)))
-  named_shown t path a rest s simple p starts calm stays = by_begins t path a rest s simple p starts calm stays (begins w path simple)
+  -- So it is where a path may be the formal parameter itself,
+  named_within : (t : State) (path : PathForm) (a : Activation Value) (rest : List (Activation Value)) (s : State) → path.root < w.tracks.first → IsWatched w a.places s.heap → StartsElsewhere w.object path.root path.selectors (slice_index_or a.places path.root Null) → awaits_holder s.control ≡ false → Stays types bodies w (running a rest s) t (named_next named (seen w.tracks path).selectors (seen w.tracks path).root (seen_state w (running a rest s))) → Shown types bodies w t (named_next named path.selectors path.root (running a rest s)) (named_next named (seen w.tracks path).selectors (seen w.tracks path).root (seen_state w (running a rest s)))
+  named_within t path a rest s inside p starts calm stays = by_begins t path a rest s inside p starts calm stays (begins w path)
 
-  -- A record that is copied begins with the same component of its object, however the way to it is judged.
-  place_by : (q : RecordPathForm) (a : Activation Value) (rest : List (Activation Value)) (s : State) → PathIsSimple w.tracks.first q.object → IsWatched w a.places s.heap → Begins w q.object → component_in (seen_record w.tracks q) (seen_state w (running a rest s)) ≡ component_in q (running a rest s)
-  place_by q a rest s simple p (apart positive kept) =
+  -- and where it may not.
+  pub named_shown : (t : State) (path : PathForm) (a : Activation Value) (rest : List (Activation Value)) (s : State) → PathIsSimple w.tracks.first path → IsWatched w a.places s.heap → StartsElsewhere w.object path.root path.selectors (slice_index_or a.places path.root Null) → awaits_holder s.control ≡ false → Stays types bodies w (running a rest s) t (named_next named (seen w.tracks path).selectors (seen w.tracks path).root (seen_state w (running a rest s))) → Shown types bodies w t (named_next named path.selectors path.root (running a rest s)) (named_next named (seen w.tracks path).selectors (seen w.tracks path).root (seen_state w (running a rest s)))
+  named_shown t path a rest s simple p starts calm stays = named_within t path a rest s (within w.tracks.first path.root path.selectors simple) p starts calm stays
+
+  -- A record that is copied begins with the same component of its object, where the way to it is judged as it is,
+  place_kept : (q : RecordPathForm) (a : Activation Value) (rest : List (Activation Value)) (s : State) → q.object.root < w.tracks.first → IsWatched w a.places s.heap → seen w.tracks q.object ≡ q.object → component_in (seen_record w.tracks q) (seen_state w (running a rest s)) ≡ component_in q (running a rest s)
+  place_kept q a rest s inside p kept =
       let z = seen_state w (running a rest s) in
-      let lt : q.object.root < w.tracks.first = within w.tracks.first q.object.root q.object.selectors simple in
-      let in_places : q.object.root < length a.places = subst (λ (n : ℕ). q.object.root < n) (sym p.count) lt in
+      let in_places : q.object.root < length a.places = subst (λ (n : ℕ). q.object.root < n) (sym p.count) inside in
       ap (λ (path : PathForm). component_in (record q { object = path }) z) kept
       ∙ ap (λ (v : Value). (place_in named v q.object.selectors q).component) (read_front a.places (tracked_values w s.heap) q.object.root Null in_places)
-  place_by q a rest s simple p (untracked c cs root is none kept) =
+
+  -- and however it is judged.
+  place_by : (q : RecordPathForm) (a : Activation Value) (rest : List (Activation Value)) (s : State) → q.object.root < w.tracks.first → IsWatched w a.places s.heap → Begins w q.object → component_in (seen_record w.tracks q) (seen_state w (running a rest s)) ≡ component_in q (running a rest s)
+  place_by q a rest s inside p (apart positive kept) = place_kept q a rest s inside p kept
+  place_by q a rest s inside p (itself root is kept) = place_kept q a rest s inside p kept
+  place_by q a rest s inside p (untracked c cs root is none kept) =
       let z = seen_state w (running a rest s) in
       ap (λ (path : PathForm). component_in (record q { object = path }) z) kept
       ∙ ap (λ (ds : List ℕ). (place_in named (held named z q.object.root) ds q).component) is
       ∙ sym (ap (λ (ds : List ℕ). (place_in named (held named (running a rest s) q.object.root) ds q).component) is)
-  place_by q a rest s simple p (tracked c cs x root is number moved) =
+  place_by q a rest s inside p (tracked c cs x root is number moved) =
       let z = seen_state w (running a rest s) in
       let u = value_at types bodies w s.heap a.places p (w.base + c) in
       let r = record q { object = record { root = x; of_record = false; selectors = cs; spot = q.object.spot } } in
@@ -182,16 +208,16 @@ module _ (types : List TypeDefinition) (bodies : List BodyForm) (w : View) where
       ∙ sym (ap (λ (ds : List ℕ). (place_in named (held named (running a rest s) q.object.root) ds q).component) is)
 
   -- The object in which a record that is copied lies.
-  pub record_shown : (t : State) (q : RecordPathForm) (a : Activation Value) (rest : List (Activation Value)) (s : State) → PathIsSimple w.tracks.first q.object → IsWatched w a.places s.heap → StartsElsewhere w.object q.object.root q.object.selectors (slice_index_or a.places q.object.root Null) → Stays types bodies w (running a rest s) t (item_next named (item_of_record (seen_record w.tracks q)) (seen_state w (running a rest s))) → Shown types bodies w t (item_next named (item_of_record q) (running a rest s)) (item_next named (item_of_record (seen_record w.tracks q)) (seen_state w (running a rest s)))
-  record_shown t q a rest s simple p starts stays =
+  pub record_shown : (t : State) (q : RecordPathForm) (a : Activation Value) (rest : List (Activation Value)) (s : State) → q.object.root < w.tracks.first → IsWatched w a.places s.heap → StartsElsewhere w.object q.object.root q.object.selectors (slice_index_or a.places q.object.root Null) → Stays types bodies w (running a rest s) t (item_next named (item_of_record (seen_record w.tracks q)) (seen_state w (running a rest s))) → Shown types bodies w t (item_next named (item_of_record q) (running a rest s)) (item_next named (item_of_record (seen_record w.tracks q)) (seen_state w (running a rest s)))
+  record_shown t q a rest s inside p starts stays =
       let z = seen_state w (running a rest s) in
       let path = seen w.tracks q.object in
       let k = frame.Copies (component_in q (running a rest s)) q.record_type ∷ s.control in
       let goes : item_next named (item_of_record (seen_record w.tracks q)) z ≡ named_next named path.selectors path.root (at (seen_control w k) z) =
       ap (λ (c : ℕ). named_next named path.selectors path.root (at (frame.Copies c q.record_type ∷ seen_control w s.control) z))
-      (place_by q a rest s simple p (begins w q.object simple)) in
+      (place_by q a rest s inside p (begins w q.object)) in
       subst (λ (n : Next). Shown types bodies w t (item_next named (item_of_record q) (running a rest s)) n) (sym goes)
-      (named_shown t q.object a rest (at k s) simple p starts refl (stays.0, stays.1, stays.2, stays.3 ∙ goes))
+      (named_within t q.object a rest (at k s) inside p starts refl (stays.0, stays.1, stays.2, stays.3 ∙ goes))
 
   -- The object in which the last component of a path lies, where that begins with what another variable holds.
   pub holder_other : (t : State) (waiting : Waiting) (c : ℕ) (cs : List ℕ) (v : Value) (a : Activation Value) (rest : List (Activation Value)) (s : State) → LeadsElsewhere w.object s.heap true (before_last (inside v c) cs) (whole v) → IsWatched w a.places s.heap → Shown types bodies w t (holder_by c cs v (waiting_frame waiting) (running a rest s)) (holder_by c cs v (waiting_frame (seen_waiting w waiting)) (seen_state w (running a rest s)))

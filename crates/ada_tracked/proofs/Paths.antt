@@ -10,7 +10,7 @@ use Rattle.ada_meaning.specs.declared.state.Value.TheVariants.{Null, Names, Scal
 use Rattle.ada_meaning.specs.declared.state.Id.{Id}
 use Rattle.ada_flow.specs.Tracking.{begins_with, behind_first, seen_from, seen}
 use Rattle.ada_tracked.specs.Frames.{View, shifted, number_at, number_of}
-use Rattle.ada_tracked.specs.Simple.{IsFrom, PathIsSimple}
+use Rattle.ada_tracked.specs.Simple.{IsFrom}
 use Rattle.ada_tracked.specs.Seen.{FormalIsFirst}
 use Rattle.ada_tracked.proofs.Lists.{apart_is, shifted_same}
 
@@ -32,6 +32,11 @@ from_other [] n path e = refl
 from_other (c ∷ cs) n path e =
     ap (λ (b : Bool). if b then moved n path else seen_from cs (n + 1) path) (not_begun c path.root path.selectors e) ∙ from_other cs (n + 1) path e
 
+from_alone : (cs : List ℕ) (n : ℕ) (path : PathForm) → path.selectors ≡ [] → seen_from cs n path ≡ path
+from_alone [] n path is = refl
+from_alone (c ∷ cs) n path is =
+    ap (λ (ds : List ℕ). if begins_with c path.root ds then moved n path else seen_from cs (n + 1) path) is ∙ from_alone cs (n + 1) path is
+
 picked : (b : Bool) (n : ℕ) (m : Option ℕ) (path more : PathForm) → more ≡ by_number m path → (if b then moved n path else more) ≡ by_number (if b then Some n else m) path
 picked true n m path more e = refl
 picked false n m path more e = e
@@ -49,6 +54,8 @@ from_formal base (c ∷ cs) n path d ds root is =
 pub data Begins (w : View) (path : PathForm) : Type 0 where
   -- with a variable that is not the formal parameter
   apart : (0 < path.root) → seen w.tracks path ≡ path → Begins w path
+  -- with that, and goes no further
+  itself : path.root ≡ 0 → path.selectors ≡ [] → seen w.tracks path ≡ path → Begins w path
   -- with a component of that which is not tracked
   untracked : (c : ℕ) (cs : List ℕ) → path.root ≡ 0 → path.selectors ≡ c ∷ cs → number_of w (w.base + c) ≡ None → seen w.tracks path ≡ path → Begins w path
   -- with one that is
@@ -64,14 +71,19 @@ by_found w path c cs root is (Some x) e =
     (from_formal w.base w.tracks.components w.tracks.first path c cs root is ∙ ap (λ (found : Option ℕ). by_number found path) e
     ∙ ap (λ (ds : List ℕ). record { root = x; of_record = false; selectors = behind_first ds; spot = path.spot }) is)
 
-by_parts : (w : View) (path : PathForm) (x : ℕ) (cs : List ℕ) → path.root ≡ x → path.selectors ≡ cs → IsFrom w.tracks.first x cs → Begins w path
-by_parts w path zero [] root is simple = absurd (omega (arith, simple.0))
-by_parts w path zero (c ∷ cs) root is simple = by_found w path c cs root is (number_of w (w.base + c)) refl
-by_parts w path (suc x) cs root is simple =
+by_parts : (w : View) (path : PathForm) (x : ℕ) (cs : List ℕ) → path.root ≡ x → path.selectors ≡ cs → Begins w path
+by_parts w path zero [] root is = itself root is (from_alone w.tracks.components w.tracks.first path is)
+by_parts w path zero (c ∷ cs) root is = by_found w path c cs root is (number_of w (w.base + c)) refl
+by_parts w path (suc x) cs root is =
     apart (omega (arith, root)) (from_other w.tracks.components w.tracks.first path (apart_is path.root 0 (λ e. absurd (omega (arith, e, root)))))
 
-pub begins : (w : View) (path : PathForm) → PathIsSimple w.tracks.first path → Begins w path
-begins w path simple = by_parts w path path.root path.selectors refl refl simple
+pub begins : (w : View) (path : PathForm) → Begins w path
+begins w path = by_parts w path path.root path.selectors refl refl
+
+-- A path that is followed from the formal parameter goes on behind that.
+pub goes_on : (first x : ℕ) (cs : List ℕ) → x ≡ 0 → cs ≡ [] → IsFrom first x cs → ⊥
+goes_on first x [] root is simple = omega (arith, root, simple.0)
+goes_on first x (c ∷ cs) root is simple = absurd (cc)
 
 pub within : (first x : ℕ) (cs : List ℕ) → IsFrom first x cs → x < first
 within first x [] simple = simple.1

@@ -26,7 +26,7 @@ use Rattle.ada_tracked.specs.Seen.{awaits_holder, seen_state, plainly, IsWatched
 use Rattle.ada_tracked.specs.Looking.{LeadsElsewhere, HolderIsElsewhere, StatementsLookElsewhere}
 use Rattle.ada_tracked.specs.Law.{same, Shown}
 use Rattle.ada_tracked.proofs.Lists.{read_front, clear}
-use Rattle.ada_tracked.proofs.Paths.{Begins, apart, untracked, tracked, begins, within, formal}
+use Rattle.ada_tracked.proofs.Paths.{Begins, apart, itself, untracked, tracked, begins, goes_on, within, formal}
 use Rattle.ada_tracked.proofs.Found.{running, plain, idly, holder_by}
 use Rattle.ada_tracked.proofs.Named.{seen_waiting, start_next, start_holder, BehindElsewhere, behind_formal, holder_other, holder_formal, holder_tracked}
 use Rattle.ada_tracked.proofs.Storing.{steps, put_seen, inside_places}
@@ -92,6 +92,7 @@ module _ (types : List TypeDefinition) (bodies : List BodyForm) (w : View) where
   start_by t waiting path fs k a rest s does simple looks p stands goes_on (apart lt kept) =
       subst (λ (q : PathForm). Shown types bodies w t (start_next types waiting path.selectors path.root (running a rest s)) (start_next types (seen_waiting w waiting) q.selectors q.root (seen_state w (running a rest s))))
       (sym kept) (start_other t waiting path.root path.selectors a rest s simple lt looks p (ap awaits_holder does))
+  start_by t waiting path fs k a rest s does simple looks p stands more (itself root is kept) = absurd (goes_on w.tracks.first path.root path.selectors root is simple)
   start_by t waiting path fs k a rest s does simple looks p stands goes_on (untracked c cs root is none kept) =
       let lt : 0 < w.tracks.first = subst (λ (x : ℕ). x < w.tracks.first) root (within w.tracks.first path.root path.selectors simple) in
       subst (λ (q : PathForm). Shown types bodies w t (start_next types waiting path.selectors path.root (running a rest s)) (start_next types (seen_waiting w waiting) q.selectors q.root (seen_state w (running a rest s))))
@@ -114,7 +115,7 @@ module _ (types : List TypeDefinition) (bodies : List BodyForm) (w : View) where
 
   start_shown : (t : State) (waiting : Waiting) (path : PathForm) (fs : StmtsForm) (k : List (Frame Value)) (a : Activation Value) (rest : List (Activation Value)) (s : State) → s.control ≡ frame.Does fs ∷ k → PathIsSimple w.tracks.first path → StartsAt w s.heap waiting path.root path.selectors (slice_index_or a.places path.root Null) → IsWatched w a.places s.heap → t ≡ standing w (running a rest s) (frame.Does (a_stmt (waiting_statement w.tracks waiting (seen w.tracks path)) (seen_stmts w.tracks fs)) ∷ seen_control w k) a.operands → next types bodies t ≡ start_next types (seen_waiting w waiting) (seen w.tracks path).selectors (seen w.tracks path).root (seen_state w (running a rest s)) → Shown types bodies w t (start_next types waiting path.selectors path.root (running a rest s)) (start_next types (seen_waiting w waiting) (seen w.tracks path).selectors (seen w.tracks path).root (seen_state w (running a rest s)))
   start_shown t waiting path fs k a rest s does simple looks p stands goes_on =
-      start_by t waiting path fs k a rest s does simple looks p stands goes_on (begins w path simple)
+      start_by t waiting path fs k a rest s does simple looks p stands goes_on (begins w path)
 
   -- Branches and loops.
   branches_shown : (t : State) (branches : BranchesForm) (a : Activation Value) (rest : List (Activation Value)) (s : State) → Shown types bodies w t (branches_next named branches (running a rest s)) (branches_next named (seen_branches w.tracks branches) (seen_state w (running a rest s)))

@@ -15,6 +15,7 @@ use Rattle.ada_tracked.specs.Frames.{View}
 use Rattle.ada_tracked.specs.Simple.{FrameIsSimple}
 use Rattle.ada_tracked.specs.Seen.{Seen, IsWatched}
 use Rattle.ada_tracked.specs.Looking.{LooksElsewhere}
+use Rattle.ada_tracked.specs.Copying.{CopiesNone, is_tracked_at}
 
 -- The newest of these items is the home of no objects (7.6.1).
 abbrev pub NewestHousesNone : List Item → Type 0
@@ -62,8 +63,9 @@ Shown types bodies w t (asks request answered) n =
     (answers : Bool → State) × (n ≡ asks request answers) × ((granted : Bool) → Seen types bodies w (answered granted) (answers granted))
 Shown types bodies w t (picks count taken) n = ⊥
 
--- In each step of a body that looks at the object by the formal parameter alone, what stands for the real state stands for it afterwards, and ends as it does.
+-- In each step of a body that looks at the object by the formal parameter alone, and copies no tracked component, what stands for the real state stands for it
+-- afterwards, and ends as it does.
 abbrev pub TrackedComponentsRunAsVariables : Type 0
 TrackedComponentsRunAsVariables =
     (types : List TypeDefinition) (bodies : List BodyForm) (w : View) (s t : State) → Seen types bodies w s t → IsWatched w (places s) s.heap
-    → LooksElsewhere w s → NextIsSimple w s.control s.masters → Shown types bodies w t (next types bodies s) (next types bodies t)
+    → LooksElsewhere w s → CopiesNone types w.object (is_tracked_at w) s → NextIsSimple w s.control s.masters → Shown types bodies w t (next types bodies s) (next types bodies t)

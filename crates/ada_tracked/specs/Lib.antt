@@ -10,6 +10,8 @@ pub mod Simple
 pub mod Seen
 -- what the next step looks at
 pub mod Looking
+-- what it copies of the object
+pub mod Copying
 -- the law
 pub mod Law
 -- a body that meets the premises

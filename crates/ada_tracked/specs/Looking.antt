@@ -1,5 +1,5 @@
--- What the next step of a body looks at: at the object that is watched only where a path begins with the formal parameter. Access values that name it may be
--- read, moved, stored and compared with null; the body follows none of them, and frees none.
+-- What the next step of a body looks at: at the object that is watched only where a path begins with the formal parameter, or where a record is copied that the
+-- formal parameter is or has in it. Access values that name it may be read, moved, stored and compared with null; the body follows none of them, and frees none.
 
 use Rattle.std.specs.Prelude.{◌≡◌, ℕ, zero, suc, Bool, true, false, List, [], ◌∷◌, Some}
 use Rattle.std.specs.List.{slice_get}
@@ -80,13 +80,12 @@ module _ (o : Id) (s : State) where
   StatementsLookElsewhere (a_stmt (gets target) fs) = HolderIsElsewhere o s.heap target.root target.selectors (held named s target.root)
   StatementsLookElsewhere fs = Unit {0}
 
-  -- What a frame looks at: a record is copied out of another object, and a component that is freed names another one.
+  -- What a frame looks at: a component that is freed names another object.
   abbrev pub FrameLooksElsewhere : Frame Value → Type 0
   FrameLooksElsewhere (frame.Does fs) = StatementsLookElsewhere fs
   FrameLooksElsewhere (frame.Evaluates right) = RightLooksElsewhere right
   FrameLooksElsewhere (frame.Computes e) = ExpressionLooksElsewhere e
   FrameLooksElsewhere (frame.Fills items) = ItemsLookElsewhere items
-  FrameLooksElsewhere (frame.Copies c t) = IsOther o (newest named s)
   FrameLooksElsewhere (frame.FreesIn access c) =
       (cell : Cell Value) (u : Value) → look s.heap (newest named s) ≡ finds cell → slice_get cell.values c ≡ Some u → IsOther o u
   FrameLooksElsewhere f = Unit {0}

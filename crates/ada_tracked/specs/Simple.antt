@@ -1,5 +1,5 @@
--- Of which bodies the law speaks: they call nothing, neither declare, assign nor pass records as wholes, and copy them only as items of new objects, out of
--- another object than that of the formal parameter. Their variables have numbers below `first`, and 0 is the formal parameter, which is not named alone.
+-- Of which bodies the law speaks: they call nothing, neither declare, assign nor pass records as wholes, and copy them only as items of new objects. Their
+-- variables have numbers below `first`, and 0 is the formal parameter, which is named alone only where a record is copied that lies in it.
 
 use Rattle.std.specs.Prelude.{ℕ, ◌<◌, List, [], ◌∷◌, Option, Some, None}
 use Rattle.ada_program.specs.Form.{PathForm, ExpressionForm, integer, boolean, reads, is_null, applied_to, chained, LinksForm, no_more_links, a_link, ItemForm, null_item, item_of_path, item_of_value, item_of_record, RightForm, nothing, value_of, allocates, allocates_default, computes, DeclarationForm, creates_pool, collects, declares, declares_record, StmtForm, skips, assigns, assigns_record, frees, gets, writes, writes_text, chooses, repeats, counts, exits, calls, returns, raises, encloses, StmtsForm, no_stmts, a_stmt, BranchesForm, otherwise, a_branch, HandlersForm, no_handlers, a_handler}
@@ -40,12 +40,12 @@ abbrev pub ConditionIsSimple : (first : ℕ) → Option ExpressionForm → Type 
 ConditionIsSimple first None = Unit {0}
 ConditionIsSimple first (Some e) = ExpressionIsSimple first e
 
--- Those of an item are, and so is the way to a record that it copies.
+-- Those of an item are; a record that it copies may lie in any variable of the body, also in its formal parameter itself.
 abbrev pub ItemIsSimple : (first : ℕ) → ItemForm → Type 0
 ItemIsSimple first null_item = Unit {0}
 ItemIsSimple first (item_of_path path) = PathIsSimple first path
 ItemIsSimple first (item_of_value e) = ExpressionIsSimple first e
-ItemIsSimple first (item_of_record p) = PathIsSimple first p.object
+ItemIsSimple first (item_of_record p) = p.object.root < first
 
 -- Those of all of these items are.
 abbrev pub ItemsAreSimple : (first : ℕ) → List ItemForm → Type 0
