@@ -95,6 +95,7 @@ writes_its_record = record {
   apart = apart;
   watched = watched;
   elsewhere = (refl, tt);
+  copies = tt;
   within = (refl, tt, tt);
   confined = record { control = (inr (refl, (0, refl, refl)), (tt, tt)); operands = tt };
   steps = (Followed (Names treated), refl);

@@ -6,8 +6,8 @@ use Rattle.ada_beside.proofs.Staying.{goes_on}
 
 -- The body of an operation touches nothing of the object that lies beside the record which is its formal parameter, and nothing ceases to exist.
 pub stays_within : BodiesStayWithinTheirRecord
-stays_within types bodies w reaches beside s apart p looks within confined = (
-  untouched w reaches beside apart s p looks within confined,
-  unwritten w reaches beside apart s p within confined,
+stays_within types bodies w reaches beside s apart p looks copies within confined = (
+  untouched types w reaches beside apart s p looks copies within confined,
+  unwritten types w reaches beside apart s p within confined,
   goes_on types bodies w reaches s p looks within confined,
 )

@@ -1,8 +1,10 @@
 -- What a step of a confined body looks at and writes: nothing of the object that lies beside the record.
 
-use Rattle.std.proofs.Common.{◌≡◌, ℕ, Bool, true, false, List, [], ◌∷◌, refl, ap, ◌∙◌, inl, inr}
+use Rattle.std.proofs.Common.{◌≡◌, ◌⊎◌, ℕ, ◌+◌, Bool, true, false, List, [], ◌∷◌, refl, ap, ◌∙◌, inl, inr}
 use Rattle.std.specs.Prelude.{◌==◌, ◌&&◌}
 use Rattle.ada_program.specs.Form.{ExpressionForm, reads, is_null, ItemForm, item_of_path, item_of_record, RightForm, value_of, assigns, assigns_record, frees, gets, StmtsForm, no_stmts, a_stmt}
+use Rattle.ada_program.specs.declared.program.TypeDefinition.{TypeDefinition}
+use Rattle.ada_program.specs.Typed.{width_of}
 use Rattle.ada_meaning.specs.declared.state.Mode.{Mode}
 use Rattle.ada_meaning.specs.declared.state.Mode.TheVariants.{Running, Raising, Exiting, Returning}
 use Rattle.ada_meaning.specs.declared.state.Value.{Value}
@@ -15,13 +17,19 @@ use Rattle.ada_meaning.specs.Named.{Object, State, named, whole, inside}
 use Rattle.ada_tracked.specs.Frames.{View}
 use Rattle.ada_tracked.specs.Law.{NewestHousesNone, InnermostHousesNone, TakesNone}
 use Rattle.ada_tracked.specs.Looking.{StartsElsewhere, HolderIsElsewhere, LeadsElsewhere, ExpressionLooksElsewhere, ItemsLookElsewhere, RightLooksElsewhere, StatementsLookElsewhere, NextLooksElsewhere, FirstLooksElsewhere, LooksElsewhere}
-use Rattle.ada_tracked.specs.Seen.{IsOther, awaits_holder, FormalIsFirst, IsWatched}
+use Rattle.ada_tracked.specs.Copying.{AreNoneOf, FrameCopiesNone, FirstCopiesNone, CopiesNone}
+use Rattle.ada_tracked.specs.Seen.{leads_to, IsOther, awaits_holder, FormalIsFirst, IsWatched}
 use Rattle.ada_tracked.specs.Staying.{UnlessItEnds}
-use Rattle.ada_untouched.specs.Untouched.{hides, IsInSight, IsOpen, LeadsOn, LeadsToHolder, NewestHousesNoGhost, InnermostHousesNoGhost, ExpressionIsOpen, ItemsAreOpen, RightIsOpen, StatementsAreOpen, FrameIsOpen, JumpIsOpen, FirstIsOpen, Untouched}
+use Rattle.ada_untouched.specs.Untouched.{hides, AreShown, IsInSight, IsOpen, LeadsOn, LeadsToHolder, NewestHousesNoGhost, InnermostHousesNoGhost, ExpressionIsOpen, ItemsAreOpen, RightIsOpen, StatementsAreOpen, FrameIsOpen, JumpIsOpen, FirstIsOpen, Untouched}
 use Rattle.ada_untouched.specs.Unwritten.{FrameWritesShown, FirstWritesShown, Unwritten}
-use Rattle.ada_beside.specs.Confined.{IsConfinedFrom, ExpressionIsConfined, ItemsAreConfined, RightIsConfined, StatementsAreConfined, StoresReached, FrameIsConfined, BodyIsConfined, OperandsAreConfined, IsConfined}
+use Rattle.ada_beside.specs.Confined.{IsConfinedFrom, IsCopiedFrom, ExpressionIsConfined, ItemsAreConfined, RightIsConfined, StatementsAreConfined, StoresReached, FrameIsConfined, BodyIsConfined, OperandsAreConfined, IsConfined}
 use Rattle.ada_beside.specs.Law.{LieBeside, hidden_beside, no_ghosts, TreatsNone, IsWithin}
 use Rattle.ada_beside.proofs.Operands.{holder_starts, start_reached}
+
+-- A Boolean is one of the two.
+false_or_true : (b : Bool) → (b ≡ false) ⊎ (b ≡ true)
+false_or_true true = inr refl
+false_or_true false = inl refl
 
 -- Any object may be looked for.
 pub in_sight : (v : Value) → IsInSight no_ghosts v
@@ -54,13 +62,20 @@ pub unless_it_ends : (ends : Bool) (P : Type 0) → ends ≡ false → UnlessItE
 unless_it_ends true P e h = absurd (cc)
 unless_it_ends false P e h = h
 
-module _ (w : View) (reaches beside : ℕ → Bool) (apart : LieBeside w reaches beside) where
+module _ (types : List TypeDefinition) (w : View) (reaches beside : ℕ → Bool) (apart : LieBeside w reaches beside) where
   -- No component of another object is hidden.
   shown_other : (v : Value) (c : ℕ) → IsOther w.object v → hides (hidden_beside w beside) v c ≡ false
   shown_other Null c other = refl
   shown_other (Names o) c other = not_first (o.0 == w.object.0) (beside c) other
   shown_other (Scalar v) c other = refl
   shown_other (Part o place) c other = refl
+
+  -- None that does not lie beside the record is.
+  shown_apart : (v : Value) (c : ℕ) → beside c ≡ false → hides (hidden_beside w beside) v c ≡ false
+  shown_apart Null c none = refl
+  shown_apart (Names o) c none = not_second (o.0 == w.object.0) (beside c) none
+  shown_apart (Scalar v) c none = refl
+  shown_apart (Part o place) c none = refl
 
   -- No component is hidden that a body may store to.
   shown : (v : Value) (c : ℕ) → StoresReached w reaches v c → hides (hidden_beside w beside) v c ≡ false
@@ -79,6 +94,13 @@ module _ (w : View) (reaches beside : ℕ → Bool) (apart : LieBeside w reaches
     path_open x (c ∷ cs) from starts =
         let v = held named s x in
         (in_sight (whole v), shown (whole v) (inside v c) (start_reached w reaches (places s) x c cs formal from starts))
+
+    -- So does the way to a record that is copied.
+    record_open :
+        (x : ℕ) (cs : List ℕ) → IsCopiedFrom w.tracks.first reaches x cs → StartsElsewhere w.object x cs (held named s x)
+        → LeadsOn (hidden_beside w beside) no_ghosts cs (held named s x)
+    record_open x [] from starts = tt
+    record_open x (c ∷ cs) from starts = path_open x (c ∷ cs) from starts
 
     -- The way to the object of the last component of a path leads over one that is not hidden.
     holder_open :
@@ -105,7 +127,7 @@ module _ (w : View) (reaches beside : ℕ → Bool) (apart : LieBeside w reaches
         → ItemsAreOpen (hidden_beside w beside) no_ghosts s items
     items_open [] confined looks = tt
     items_open (item_of_path path ∷ is) confined looks = path_open path.root path.selectors confined.0 looks
-    items_open (item_of_record p ∷ is) confined looks = path_open p.object.root p.object.selectors confined.0 looks
+    items_open (item_of_record p ∷ is) confined looks = record_open p.object.root p.object.selectors confined.0 looks
     items_open (i ∷ is) confined looks = tt
 
     -- What is assigned reads no hidden component.
@@ -131,37 +153,42 @@ module _ (w : View) (reaches beside : ℕ → Bool) (apart : LieBeside w reaches
     followed_open awaits [] v leads = tt
     followed_open awaits (c ∷ cs) v leads = (in_sight v, shown_other v c leads.0)
 
-    -- A record is copied out of an object to which an operand leads, if that leads elsewhere.
-    copied_open : (v : Value) → IsOther w.object v → IsInSight no_ghosts v × ((component : ℕ) → hides (hidden_beside w beside) v component ≡ false)
-    copied_open v other = (in_sight v, λ component. shown_other v component other)
+    -- A record is copied out of an object to which an operand leads, whose components do not lie beside the record, if that is the object.
+    copied_open :
+        (v : Value) (first count : ℕ) → (leads_to w.object v ≡ true → AreNoneOf beside first count)
+        → IsInSight no_ghosts v × AreShown (hidden_beside w beside) v first count
+    copied_open v first count none = (in_sight v, λ i lt. elim (false_or_true (leads_to w.object v)) [
+      | inl other ↦ shown_other v (first + i) other
+      | inr itself ↦ shown_apart v (first + i) (none itself i lt)
+    ])
 
     -- A frame looks at no hidden component.
     frame_open :
-        (f : Frame Value) (k : List (Frame Value)) → FrameIsConfined w reaches f → NextLooksElsewhere w.object s f k → TreatsNone f → TakesNone f s.masters
-        → FrameIsOpen (hidden_beside w beside) no_ghosts s f
-    frame_open (frame.Does fs) k confined looks untreated none = statements_open fs confined looks.1
-    frame_open (frame.Leaves mode) k confined looks untreated none = innermost_no_ghost s.heap s.masters none
-    frame_open (frame.Evaluates right) k confined looks untreated none = right_open right confined looks.1
-    frame_open (frame.Computes e) k confined looks untreated none = expression_open e confined looks.1
-    frame_open (frame.Follows cs) k confined looks untreated none = followed_open (awaits_holder k) cs (newest named s) looks
-    frame_open (frame.Refers p) k confined looks untreated none = absurd confined
-    frame_open (frame.RefersIn place t) k confined looks untreated none = absurd confined
-    frame_open (frame.Opens path) k confined looks untreated none = absurd confined
-    frame_open (frame.OpensIn c) k confined looks untreated none = absurd confined
-    frame_open (frame.Fills items) k confined looks untreated none = items_open items confined looks.1
-    frame_open (frame.Copies c t) k confined looks untreated none = copied_open (newest named s) looks.1
-    frame_open (frame.Targets c right) k confined looks untreated none = in_sight (newest named s)
-    frame_open (frame.StoresIn v c) k confined looks untreated none = in_sight v
-    frame_open (frame.TargetsRecord c t items) k confined looks untreated none = absurd confined
-    frame_open (frame.StoresRecord v c count) k confined looks untreated none = absurd confined
-    frame_open (frame.Receives c) k confined looks untreated none = in_sight (newest named s)
-    frame_open (frame.FreesIn access c) k confined looks untreated none = absurd confined
-    frame_open (frame.Treats v treatment tasks) k confined looks untreated none = absurd untreated
-    frame_open (frame.Awaits v by done of part tasks) k confined looks untreated none = absurd confined
-    frame_open (frame.Ends v) k confined looks untreated none = absurd confined
-    frame_open (frame.GivesBack v cause pool) k confined looks untreated none = absurd confined
-    frame_open (frame.ClearsIn v c) k confined looks untreated none = absurd confined
-    frame_open f k confined looks untreated none = tt
+        (f : Frame Value) (k : List (Frame Value)) → FrameIsConfined w reaches f → NextLooksElsewhere w.object s f k → FrameCopiesNone types w.object beside s f
+        → TreatsNone f → TakesNone f s.masters → FrameIsOpen types (hidden_beside w beside) no_ghosts s f
+    frame_open (frame.Does fs) k confined looks copies untreated none = statements_open fs confined looks.1
+    frame_open (frame.Leaves mode) k confined looks copies untreated none = innermost_no_ghost s.heap s.masters none
+    frame_open (frame.Evaluates right) k confined looks copies untreated none = right_open right confined looks.1
+    frame_open (frame.Computes e) k confined looks copies untreated none = expression_open e confined looks.1
+    frame_open (frame.Follows cs) k confined looks copies untreated none = followed_open (awaits_holder k) cs (newest named s) looks
+    frame_open (frame.Refers p) k confined looks copies untreated none = absurd confined
+    frame_open (frame.RefersIn place t) k confined looks copies untreated none = absurd confined
+    frame_open (frame.Opens path) k confined looks copies untreated none = absurd confined
+    frame_open (frame.OpensIn c) k confined looks copies untreated none = absurd confined
+    frame_open (frame.Fills items) k confined looks copies untreated none = items_open items confined looks.1
+    frame_open (frame.Copies c t) k confined looks copies untreated none = copied_open (newest named s) c (width_of types t) copies
+    frame_open (frame.Targets c right) k confined looks copies untreated none = in_sight (newest named s)
+    frame_open (frame.StoresIn v c) k confined looks copies untreated none = in_sight v
+    frame_open (frame.TargetsRecord c t items) k confined looks copies untreated none = absurd confined
+    frame_open (frame.StoresRecord v c count) k confined looks copies untreated none = absurd confined
+    frame_open (frame.Receives c) k confined looks copies untreated none = in_sight (newest named s)
+    frame_open (frame.FreesIn access c) k confined looks copies untreated none = absurd confined
+    frame_open (frame.Treats v treatment tasks) k confined looks copies untreated none = absurd untreated
+    frame_open (frame.Awaits v by done of part tasks) k confined looks copies untreated none = absurd confined
+    frame_open (frame.Ends v) k confined looks copies untreated none = absurd confined
+    frame_open (frame.GivesBack v cause pool) k confined looks copies untreated none = absurd confined
+    frame_open (frame.ClearsIn v c) k confined looks copies untreated none = absurd confined
+    frame_open f k confined looks copies untreated none = tt
 
     -- A jump looks at no object.
     jump_open : (f : Frame Value) → JumpIsOpen (hidden_beside w beside) no_ghosts s f
@@ -170,17 +197,17 @@ module _ (w : View) (reaches beside : ℕ → Bool) (apart : LieBeside w reaches
 
     -- The first of what is left to do looks at no hidden component, in any mode.
     first_open :
-        (m : Mode) (k : List (Frame Value)) → BodyIsConfined w reaches k → FirstLooksElsewhere w.object s m k → IsWithin k s.masters
-        → FirstIsOpen (hidden_beside w beside) no_ghosts s m k
-    first_open Running [] confined looks within = tt
-    first_open Running (f ∷ k) confined looks within =
-        frame_open f k (unless_it_ends (is_return f) (FrameIsConfined w reaches f × BodyIsConfined w reaches k) within.0 confined).0 looks within.1 within.2
-    first_open (Raising e) [] confined looks within = tt
-    first_open (Raising e) (f ∷ k) confined looks within = jump_open f
-    first_open Exiting [] confined looks within = tt
-    first_open Exiting (f ∷ k) confined looks within = jump_open f
-    first_open Returning [] confined looks within = tt
-    first_open Returning (f ∷ k) confined looks within = jump_open f
+        (m : Mode) (k : List (Frame Value)) → BodyIsConfined w reaches k → FirstLooksElsewhere w.object s m k → FirstCopiesNone types w.object beside s m k
+        → IsWithin k s.masters → FirstIsOpen types (hidden_beside w beside) no_ghosts s m k
+    first_open Running [] confined looks copies within = tt
+    first_open Running (f ∷ k) confined looks copies within =
+        frame_open f k (unless_it_ends (is_return f) (FrameIsConfined w reaches f × BodyIsConfined w reaches k) within.0 confined).0 looks copies within.1 within.2
+    first_open (Raising e) [] confined looks copies within = tt
+    first_open (Raising e) (f ∷ k) confined looks copies within = jump_open f
+    first_open Exiting [] confined looks copies within = tt
+    first_open Exiting (f ∷ k) confined looks copies within = jump_open f
+    first_open Returning [] confined looks copies within = tt
+    first_open Returning (f ∷ k) confined looks copies within = jump_open f
 
     -- A frame writes no hidden component.
     frame_shown :
@@ -208,9 +235,9 @@ module _ (w : View) (reaches beside : ℕ → Bool) (apart : LieBeside w reaches
 
   -- The next step of a confined body looks at no hidden component.
   pub untouched :
-      (s : State) → IsWatched w (places s) s.heap → LooksElsewhere w s → IsWithin s.control s.masters → IsConfined w reaches s
-      → Untouched (hidden_beside w beside) no_ghosts s
-  untouched s p looks within confined = first_open s p.formal s.mode s.control confined.control looks within
+      (s : State) → IsWatched w (places s) s.heap → LooksElsewhere w s → CopiesNone types w.object beside s → IsWithin s.control s.masters
+      → IsConfined w reaches s → Untouched types (hidden_beside w beside) no_ghosts s
+  untouched s p looks copies within confined = first_open s p.formal s.mode s.control confined.control looks copies within
 
   -- The next step of a confined body writes no hidden component.
   pub unwritten : (s : State) → IsWatched w (places s) s.heap → IsWithin s.control s.masters → IsConfined w reaches s → Unwritten (hidden_beside w beside) s

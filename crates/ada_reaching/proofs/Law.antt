@@ -268,7 +268,7 @@ pub stays_reaching :
     → AreApart (program_form program) program.types.items shuns apart → (ghosts unnamed : Id → Bool)
     (behind : List (Frame Value)) (lower : List Master) (s : State) → typed.Typed (program_form program) s
     → IsReaching (program_form program) shuns apart ghosts unnamed behind lower s → IsWithin behind s
-    → Untouched none_hidden ghosts s
+    → Untouched program.types.items none_hidden ghosts s
     × AllGoOn (GoesOn (program_form program) shuns apart ghosts unnamed behind lower s.heap) (next program.types.items (body_forms program) s)
 stays_reaching program well shuns apart are_apart ghosts unnamed behind lower s typing reaching within =
     let p = program_form program in
@@ -301,7 +301,7 @@ stays_reaching program well shuns apart are_apart ghosts unnamed behind lower s 
       operands = reaching.operands;
       same = λ o is. refl;
     } in (
-      first_open w s sound runs s.mode s.control reaching.control root reaching.seeks,
+      first_open w s sound runs program.types.items s.mode s.control reaching.control root reaching.seeks,
       step_goes w program.types.items refl are_apart s.mode s.control s sound (further w s.control within.on) within.houses root
           (first_refers p (cells_of s.heap) w procedure s.control (older s.activations) typing.waiting)
           (first_assigns own s w s.mode s.control typing.inside refl refl) runs reaching.control reaching.jumps

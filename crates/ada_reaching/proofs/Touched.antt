@@ -1,8 +1,9 @@
 -- What a step looks at of bodies that shun some access types: at no ghost.
 
-use Rattle.std.proofs.Common.{◌≡◌, ◌<◌, ◌≤◌, ℕ, true, List, [], ◌∷◌, ◌++◌, Option, Some, None, refl, sym, ap, ◌∙◌, inr, subst, arith}
+use Rattle.std.proofs.Common.{◌≡◌, ◌≤◌, ℕ, ◌+◌, true, List, [], ◌∷◌, ◌++◌, Option, Some, None, refl, sym, ap, ◌∙◌, inr, subst, arith}
 use Rattle.std.specs.List.{list_all, slice_get}
 use Rattle.std.proofs.lemmas.Bool.{and_parts}
+use Rattle.ada_program.specs.declared.program.TypeDefinition.{TypeDefinition}
 use Rattle.ada_program.specs.declared.program.TypeNo.{TypeNo}
 use Rattle.ada_program.specs.declared.program.VariableKind.{VariableKind}
 use Rattle.ada_program.specs.declared.program.VariableKind.TheVariants as variable
@@ -165,52 +166,54 @@ module _ (w : World) (s : State) (sound : Sound w s) (r : Runs w s) where
       subst (λ (masters : List Master). InnermostHousesNoGhost w.ghosts s.heap masters) (sym (r.owns ∙ ap (λ (upper : List Master). upper ++ w.lower) is))
       (newest_open m.items h.0)
 
-  -- A frame looks at no ghost.
-  frame_open :
-      (f : Frame Value) (k : List (Frame Value)) → Left w (f ∷ k) → FrameIsRooted w.p.types (variables_in w) f
-      → ValueSeeks w s.heap (newest named s) (f ∷ k) → FrameIsOpen none_hidden w.ghosts s f
-  frame_open (frame.Does fs) k h root seeks = statements_open fs (h.0) root
-  frame_open (frame.Leaves mode) k h root seeks = innermost_open mode k w.upper refl h.2
-  frame_open (frame.Evaluates right) k h root seeks = right_open right (h.0) root
-  frame_open (frame.Computes e) k h root seeks = expression_open e (h.0) root
-  frame_open (frame.Follows cs) k h root seeks = followed_open cs (newest named s) k seeks
-  frame_open (frame.Refers q) k h root seeks = record_open q (h.0) root
-  frame_open (frame.RefersIn place t) k h root seeks = in_sight w s.heap r.same (newest named s) seeks
-  frame_open (frame.Opens path) k h root seeks = holder_open w s path.root path.selectors root.0 sound r root.1 (h.0)
-  frame_open (frame.OpensIn c) k h root seeks = (in_sight w s.heap r.same (newest named s) seeks, nothing_hidden (newest named s) c)
-  frame_open (frame.Fills items) k h root seeks = items_open items (h.0) root
-  frame_open (frame.Copies c t) k h root seeks =
-      (in_sight w s.heap r.same (newest named s) seeks, λ component. nothing_hidden (newest named s) component)
-  frame_open (frame.Targets c right) k h root seeks = in_sight w s.heap r.same (newest named s) seeks
-  frame_open (frame.StoresIn v c) k h root seeks = h.0
-  frame_open (frame.TargetsRecord c t items) k h root seeks = in_sight w s.heap r.same (newest named s) seeks
-  frame_open (frame.StoresRecord v c count) k h root seeks = h.0
-  frame_open (frame.Receives c) k h root seeks = in_sight w s.heap r.same (newest named s) seeks
-  frame_open (frame.FreesIn access c) k h root seeks = (
-    (in_sight w s.heap r.same (newest named s) (λ o x e at. (seeks o x e at).0), nothing_hidden (newest named s) c),
-    component_open (newest named s) c (look s.heap (newest named s)) refl (λ o x e at. (seeks o x e at).1),
-  )
-  frame_open (frame.Treats v treatment tasks) k h root seeks = h.0.0
-  frame_open (frame.Awaits v by done of part tasks) k h root seeks = h.0.0
-  frame_open (frame.Ends v) k h root seeks = h.0
-  frame_open (frame.GivesBack v cause pool) k h root seeks = h.0
-  frame_open (frame.ClearsIn v c) k h root seeks = h.0
-  frame_open f k h root seeks = tt
-
   -- A jump looks at no ghost.
   jump_open : (f : Frame Value) (k : List (Frame Value)) → Left w (f ∷ k) → JumpIsOpen none_hidden w.ghosts s f
   jump_open (frame.Awaits v by done of part tasks) k h = h.0.0
   jump_open f k h = tt
 
-  -- The first of what is left to do looks at no ghost, in any mode.
-  pub first_open :
-      (m : Mode) (k : List (Frame Value)) → Left w k → FirstIsRooted w.p.types (variables_in w) m k
-      → OperandsSeek w s.heap m k (operands s) → FirstIsOpen none_hidden w.ghosts s m k
-  first_open Running [] h root seeks = tt
-  first_open Running (f ∷ k) h root seeks = frame_open f k h root (newest_seeks w s.heap (f ∷ k) (operands s) seeks)
-  first_open (Raising e) [] h root seeks = tt
-  first_open (Raising e) (f ∷ k) h root seeks = jump_open f k h
-  first_open Exiting [] h root seeks = tt
-  first_open Exiting (f ∷ k) h root seeks = jump_open f k h
-  first_open Returning [] h root seeks = tt
-  first_open Returning (f ∷ k) h root seeks = jump_open f k h
+  -- By the types that say how wide a record is.
+  module _ (types : List TypeDefinition) where
+    -- A frame looks at no ghost.
+    frame_open :
+        (f : Frame Value) (k : List (Frame Value)) → Left w (f ∷ k) → FrameIsRooted w.p.types (variables_in w) f
+        → ValueSeeks w s.heap (newest named s) (f ∷ k) → FrameIsOpen types none_hidden w.ghosts s f
+    frame_open (frame.Does fs) k h root seeks = statements_open fs (h.0) root
+    frame_open (frame.Leaves mode) k h root seeks = innermost_open mode k w.upper refl h.2
+    frame_open (frame.Evaluates right) k h root seeks = right_open right (h.0) root
+    frame_open (frame.Computes e) k h root seeks = expression_open e (h.0) root
+    frame_open (frame.Follows cs) k h root seeks = followed_open cs (newest named s) k seeks
+    frame_open (frame.Refers q) k h root seeks = record_open q (h.0) root
+    frame_open (frame.RefersIn place t) k h root seeks = in_sight w s.heap r.same (newest named s) seeks
+    frame_open (frame.Opens path) k h root seeks = holder_open w s path.root path.selectors root.0 sound r root.1 (h.0)
+    frame_open (frame.OpensIn c) k h root seeks = (in_sight w s.heap r.same (newest named s) seeks, nothing_hidden (newest named s) c)
+    frame_open (frame.Fills items) k h root seeks = items_open items (h.0) root
+    frame_open (frame.Copies c t) k h root seeks =
+        (in_sight w s.heap r.same (newest named s) seeks, λ i lt. nothing_hidden (newest named s) (c + i))
+    frame_open (frame.Targets c right) k h root seeks = in_sight w s.heap r.same (newest named s) seeks
+    frame_open (frame.StoresIn v c) k h root seeks = h.0
+    frame_open (frame.TargetsRecord c t items) k h root seeks = in_sight w s.heap r.same (newest named s) seeks
+    frame_open (frame.StoresRecord v c count) k h root seeks = h.0
+    frame_open (frame.Receives c) k h root seeks = in_sight w s.heap r.same (newest named s) seeks
+    frame_open (frame.FreesIn access c) k h root seeks = (
+      (in_sight w s.heap r.same (newest named s) (λ o x e at. (seeks o x e at).0), nothing_hidden (newest named s) c),
+      component_open (newest named s) c (look s.heap (newest named s)) refl (λ o x e at. (seeks o x e at).1),
+    )
+    frame_open (frame.Treats v treatment tasks) k h root seeks = h.0.0
+    frame_open (frame.Awaits v by done of part tasks) k h root seeks = h.0.0
+    frame_open (frame.Ends v) k h root seeks = h.0
+    frame_open (frame.GivesBack v cause pool) k h root seeks = h.0
+    frame_open (frame.ClearsIn v c) k h root seeks = h.0
+    frame_open f k h root seeks = tt
+
+    -- The first of what is left to do looks at no ghost, in any mode.
+    pub first_open :
+        (m : Mode) (k : List (Frame Value)) → Left w k → FirstIsRooted w.p.types (variables_in w) m k
+        → OperandsSeek w s.heap m k (operands s) → FirstIsOpen types none_hidden w.ghosts s m k
+    first_open Running [] h root seeks = tt
+    first_open Running (f ∷ k) h root seeks = frame_open f k h root (newest_seeks w s.heap (f ∷ k) (operands s) seeks)
+    first_open (Raising e) [] h root seeks = tt
+    first_open (Raising e) (f ∷ k) h root seeks = jump_open f k h
+    first_open Exiting [] h root seeks = tt
+    first_open Exiting (f ∷ k) h root seeks = jump_open f k h
+    first_open Returning [] h root seeks = tt
+    first_open Returning (f ∷ k) h root seeks = jump_open f k h

@@ -44,5 +44,5 @@ UnusedObjectsAreUntouched =
     → AreShaped (program_form program) program.types.items apart
     → UseNone (program_form program) shuns apart → (ghosts unnamed : Id → Bool) (behind : List (Frame Value)) (lower : List Master)
     → IsReaching (program_form program) shuns apart ghosts unnamed behind lower s → IsWithin behind s
-    → Untouched none_hidden ghosts s
+    → Untouched program.types.items none_hidden ghosts s
     × AllGoOn (GoesOn (program_form program) shuns apart ghosts unnamed behind lower s.heap) (next program.types.items (body_forms program) s)

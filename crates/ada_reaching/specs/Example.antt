@@ -183,7 +183,7 @@ pub record FollowsGhost (program : Program) (shuns : ℕ → Bool) (apart : Apar
   pub runs_on : RunsOn program b s after
   pub shuns_not_all : body_shuns (program_form program).types shuns apart b ≡ false
   pub ghosts_there : (o : Id) → ghosts o ≡ true → IsOfShunned (program_form program).types shuns (object_at s.heap o)
-  pub looks : Untouched none_hidden ghosts s → ⊥
+  pub looks : Untouched program.types.items none_hidden ghosts s → ⊥
   pub ghost : Id
   pub is_ghost : ghosts ghost ≡ true
   pub changes : object_at after.heap ghost ≢ object_at s.heap ghost

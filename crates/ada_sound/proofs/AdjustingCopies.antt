@@ -41,6 +41,7 @@ use Rattle.ada_reaching.specs.Law as reaching
 use Rattle.ada_scopes.proofs.Components.{collect_two, items_fit}
 use Rattle.ada_scopes.proofs.Runs.{Scoped}
 use Rattle.ada_sound.specs.Agreement.{running_procedure}
+use Rattle.ada_tracked.specs.Copying.{CopiesNone}
 use Rattle.ada_tracked.specs.Frames.{View, blank_object, shifted, values_at}
 use Rattle.ada_tracked.specs.Law.{InnermostHousesNone}
 use Rattle.ada_tracked.specs.Seen.{IsWatched}
@@ -55,7 +56,8 @@ use Rattle.ada_untouched.specs.Unwritten.{Unwritten}
 use Rattle.ada_sound.proofs.Adjusting.{Adjusting, AdjustingCopy, LeavesAlone, is_one_of, put_aside, same_sparing}
 use Rattle.ada_sound.proofs.AdjustingEnds.{EndsCopy}
 use Rattle.ada_sound.proofs.AdjustingEnters.{filled_in_program}
-use Rattle.ada_sound.proofs.AdjustingGoes.{adjusting_goes, adjusting_returns, adjusting_stored, is_watched, none_comes_out, spares_on}
+use Rattle.ada_sound.proofs.CopiedBare.{one_contained}
+use Rattle.ada_sound.proofs.AdjustingGoes.{adjusting_goes, adjusting_returns, adjusting_stored, copies_no_access, is_watched, none_comes_out, spares_on}
 use Rattle.ada_sound.proofs.AdjustingSeen.{simple_begins}
 use Rattle.ada_sound.proofs.AdjustingSteps.{GoesAdjusting, InAdjusting, IsOrderly, SparesOn, houses_none}
 use Rattle.ada_sound.proofs.Blanked.{alters_unblanked, blanked_at, ends_unblanked, out_blanked, says_unblanked, stored_unblanked, unblanked}
@@ -233,13 +235,13 @@ module _ (program : Program) (s : State) (d : AdjustingCopy program s) where
         (subst (λ (t : State). StepsTo (InAdjusting program (aside s) f) t (next tds bodies t)) (nothing_aside s) goes)
 
   -- Where some are, the body touches none of them.
-  module _ (reaches : ℕ → Bool) (beside : LieBeside f.w reaches (is_one_of d.owners)) (confined : IsConfined f.w reaches s) (watched : IsWatched f.w (places s) s.heap) (spares : SparesOn program f.w f.access f.behind f.lower s) (inner : is_return_first s.control ≡ false) where
+  module _ (reaches : ℕ → Bool) (beside : LieBeside f.w reaches (is_one_of d.owners)) (confined : IsConfined f.w reaches s) (watched : IsWatched f.w (places s) s.heap) (spares : SparesOn program f.w f.access f.behind f.lower s) (copies : CopiesNone tds f.w.object (is_one_of d.owners) s) (inner : is_return_first s.control ≡ false) where
     abbrev hidden : Id → (component : ℕ) → Bool
     hidden = hidden_beside f.w (is_one_of d.owners)
 
-    stays : Untouched hidden no_ghosts s × Unwritten hidden s × AllGoOn f.w reaches s.heap (next tds bodies s)
+    stays : Untouched tds hidden no_ghosts s × Unwritten hidden s × AllGoOn f.w reaches s.heap (next tds bodies s)
     stays =
-        stays_within tds bodies f.w reaches (is_one_of d.owners) s beside watched spares.0
+        stays_within tds bodies f.w reaches (is_one_of d.owners) s beside watched spares.0 copies
         (within_now f.w.tracks.first s.control s.masters inner f.simple (λ left k at. houses_none program (aside s) f left k at)) confined
 
     alike_next : NextAlike hidden no_ghosts (next tds bodies s) (next tds bodies (aside s))
@@ -358,10 +360,16 @@ module _
       spares_on program well may (put_aside d.owners d.object s) g s.heap typing d.x real_found real_like.0 inner
       (first_houses_its s.control s.heap s.masters stored.1) d.sparing
 
+  -- It copies none of the components that are put aside.
+  none_copied : CopiesNone program.types.items g.w.object (is_one_of d.owners) s
+  none_copied =
+      copies_no_access program well may (put_aside d.owners d.object s) g s.heap typing d.x real_found real_like.0 (is_one_of d.owners)
+      (λ c is. of_access c (one_contained d.owners c is)) d.sparing
+
   inner_on : is_return_first s.control ≡ false → StepsTo (InCopy program s.heap) s (next program.types.items (body_forms program) s)
   inner_on inner =
       let goes = adjusting_goes program well may frees (put_aside d.owners d.object s) (orderly_aside program well s reached d.owners d.object g nested) typing_aside g exists inner in
-      elim d.leaves_alone [ inl none ↦ none_on program s d none goes | inr (reaches, beside, confined) ↦ some_on program s d reaches beside confined watched (spared inner) inner goes ]
+      elim d.leaves_alone [ inl none ↦ none_on program s d none goes | inr (reaches, beside, confined) ↦ some_on program s d reaches beside confined watched (spared inner) none_copied inner goes ]
 
   ends_copy : EndsCopy program (put_aside d.owners d.object s) g s.heap
   ends_copy = record {

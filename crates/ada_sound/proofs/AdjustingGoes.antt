@@ -25,6 +25,7 @@ use Rattle.ada_tracked.proofs.Law.{plainly_at_end}
 use Rattle.ada_program.specs.declared.program.Exception.{Exception}
 use Rattle.ada_flow.specs.Flow.{Holds}
 use Rattle.ada_meaning.specs.declared.state.Mode.TheVariants.{Raising}
+use Rattle.ada_tracked.specs.Copying.{CopiesNone, is_tracked_at}
 use Rattle.ada_tracked.specs.Frames.{blanked, seen_control}
 use Rattle.ada_tracked.specs.Seen.{AreApart, IsWatched, seen_state}
 use Rattle.ada_typed.proofs.Bodies.{own_bodies, seen_as, seen_fits, tables_in}
@@ -49,7 +50,9 @@ use Rattle.ada_sound.proofs.FrugalControl.{Frugal, Frugally, frugal_ends, is_ret
 use Rattle.ada_sound.proofs.HousesIts.{first_houses_its}
 use Rattle.ada_sound.proofs.Invariant.{Control, GoesOn, Ready, ReadyIn, Rooms}
 use Rattle.ada_sound.proofs.AdjustingSeen.{stands_for}
+use Rattle.ada_sound.proofs.CopiedBare.{EachIsAccess, copies_none, next_bare, tracked_access}
 use Rattle.ada_sound.proofs.Sparing.{Sparing, stays_sparing}
+use Rattle.ada_sound.proofs.SparingLooks.{SoughtIsOther}
 use Rattle.ada_sound.proofs.Stored.{Stored}
 use Rattle.ada_sound.proofs.StoredStates.{IsStored, ready_stored}
 use Rattle.ada_sound.proofs.Judged.{judged_in}
@@ -60,7 +63,7 @@ use Rattle.ada_sound.proofs.Returns.{CrossesTo, same_types}
 use Rattle.ada_sound.proofs.TracksApart.{AreInARow, tracks_apart}
 use Rattle.ada_sound.proofs.TracksWell.{copied_in_order, tracked_well}
 use Rattle.ada_sound.proofs.Trackers.{calls_stand_apart, order_too, stands_apart}
-use Rattle.ada_sound.proofs.WatchedBy.{watched_by}
+use Rattle.ada_sound.proofs.WatchedBy.{watched_access, watched_by}
 
 -- What a body frees as it is judged it frees by the instance for that (13.11.2).
 pub judged_owns : (p : ProgramForm) → FreesItsOwn p → (number : ℕ) (b : BodyForm) (tracks : Tracks) → slice_get p.bodies number ≡ Some b → TracksComponents p.types tracks b.variables → BodyIsOrderly tracks b
@@ -136,6 +139,28 @@ module _
       (rw f.object_so found) exists
       (subst (λ (tracks : Tracks). AreApart tracks.components) f.tracks_so (tracks_apart p.types (in_a_row p well may) f.number f.b))
 
+  -- The next step copies none of the components of the object that are of access types.
+  pub copies_no_access :
+      (these : (component : ℕ) → Bool) → EachIsAccess p.types x.cell.access these → Sparing program f.w.object f.access f.behind f.lower (record s { heap = heap })
+      → CopiesNone program.types.items f.w.object these (record s { heap = heap })
+  copies_no_access these each sparing =
+      let same : own.types ≡ p.types = same_types (Some f.number) p in
+      copies_none program.types.items own (sym same) (record s { heap = heap }) f.w.object x (rw f.object_so found) these
+      (subst (λ (types : List TypeForm). EachIsAccess types x.cell.access these) (sym same) each) inside
+      (subst (λ (types : List TypeForm). SoughtIsOther types f.w.object s.mode s.control (operands s)) (sym same) sparing.sought)
+
+  -- Nor does it copy a component that is tracked.
+  pub copies_no_tracked :
+      Sparing program f.w.object f.access f.behind f.lower (record s { heap = heap })
+      → CopiesNone program.types.items f.w.object (is_tracked_at f.w) (record s { heap = heap })
+  copies_no_tracked sparing =
+      let there =
+      watched_access own f.w (tracks_seen p f.number f.b f.w.tracks f.there f.components) (record s { heap = heap }) f.place x inside (rw f.object_so f.formal) f.based
+      (rw f.object_so found) in
+      copies_no_access (is_tracked_at f.w)
+      (subst (λ (types : List TypeForm). EachIsAccess types x.cell.access (is_tracked_at f.w)) (same_types (Some f.number) p)
+      (tracked_access own.types f.w x.cell.access there.0 there.1 there.2)) sparing
+
   -- What the running body sees: it is that of the Adjust.
   runs_here : seen_in (running_procedure s) p ≡ seen_by f.number f.b p
   runs_here = ap (λ (procedure : Option ℕ). seen_in procedure p) f.runs ∙ seen_as p f.number f.b f.there
@@ -148,7 +173,7 @@ module _
       subst (λ (access : ℕ). SparesOn program f.w access f.behind f.lower (record s { heap = heap })) of_access
       (stays_sparing program well (record s { heap = heap }) typing
       (subst (λ (q : ProgramForm). list_all (λ y. holds_one_value y.kind) (drop 1 q.variables) ≡ true) (sym runs_here) f.lone) f.w x (rw f.object_so found) f.simple inner
-      houses f.behind f.lower
+      houses (next_bare program s f) f.behind f.lower
       (subst (λ (access : ℕ). Sparing program f.w.object access f.behind f.lower (record s { heap = heap })) (sym of_access) sparing))
 
 some_same : {x y : Behind} → Some x ≡ Some y → x ≡ y
@@ -217,7 +242,8 @@ adjusting_goes program well may frees s orderly typing f exists inner =
     let stored = adjusting_stored program s f in
     adjusting_step program well s orderly f (is_judged program well may frees f.number f.b f.w.tracks f.there f.components f.orderly)
     (is_watched program well may s f s.heap typing f.x f.found f.of_access exists)
-    (spares_on program well may s f s.heap typing f.x f.found f.of_access inner (first_houses_its s.control s.heap s.masters stored.1) f.sparing) inner
+    (spares_on program well may s f s.heap typing f.x f.found f.of_access inner (first_houses_its s.control s.heap s.masters stored.1) f.sparing)
+    (copies_no_tracked program well may s f s.heap typing f.x f.found f.of_access f.sparing) inner
 
 -- Its end, where what is called later for the copy sees to components that hold null here.
 pub adjusting_returns :

@@ -28,6 +28,7 @@ use Rattle.ada_scopes.specs.Scopes.{CollectTwoTypes}
 use Rattle.ada_tracked.proofs.Law.{runs_as_variables}
 use Rattle.ada_tracked.proofs.Staying.{stay_simple}
 use Rattle.ada_reaching.specs.Law.{AllGoOn}
+use Rattle.ada_tracked.specs.Copying.{CopiesNone, is_tracked_at}
 use Rattle.ada_tracked.specs.Frames.{View, blanked}
 use Rattle.ada_tracked.specs.Law.{InnermostHousesNone, IsSilent, Matches, Shown, both, alone}
 use Rattle.ada_tracked.specs.Law as matching
@@ -133,6 +134,7 @@ module _ (program : Program) (s : State) (f : Adjusting program s) where
 module _
     (program : Program) (well : IsWellFormed (program_form program)) (s : State) (orderly : IsOrderly program s) (f : Adjusting program s)
     (judged : IsJudged program f.number f.w.tracks) (watched : IsWatched f.w (places s) s.heap) (spares : SparesOn program f.w f.access f.behind f.lower s)
+    (copies : CopiesNone program.types.items f.w.object (is_tracked_at f.w) s)
     (inner : is_return_first s.control ≡ false) where
   abbrev p : ProgramForm
   p = program_form program
@@ -257,7 +259,7 @@ module _
   real_on = each_runs_on tds bodies s (simple_crosses f.w.tracks.first s.mode s.control f.simple inner)
 
   shown : Shown tds bodies f.w f.t (next tds bodies s) (next tds bodies f.t)
-  shown = runs_as_variables tds bodies f.w s f.t f.seen watched spares.0 (next_simple f.w s.control s.masters f.simple inner (houses_none program s f))
+  shown = runs_as_variables tds bodies f.w s f.t f.seen watched spares.0 copies (next_simple f.w s.control s.masters f.simple inner (houses_none program s f))
 
   simple_on : AllStaySimple f.w.tracks.first (next tds bodies s)
   simple_on = stay_simple tds bodies f.w.tracks.first s (within f.w.tracks.first s.control f.simple inner)
@@ -402,5 +404,5 @@ module _
 pub adjusting_step :
     (program : Program) → IsWellFormed (program_form program) → (s : State) → IsOrderly program s → (f : Adjusting program s)
     → IsJudged program f.number f.w.tracks → IsWatched f.w (places s) s.heap → SparesOn program f.w f.access f.behind f.lower s
-    → is_return_first s.control ≡ false → GoesAdjusting program s f (next program.types.items (body_forms program) s)
-adjusting_step program well s orderly f judged watched spares inner = step_on program well s orderly f judged watched spares inner
+    → CopiesNone program.types.items f.w.object (is_tracked_at f.w) s → is_return_first s.control ≡ false → GoesAdjusting program s f (next program.types.items (body_forms program) s)
+adjusting_step program well s orderly f judged watched spares copies inner = step_on program well s orderly f judged watched spares copies inner

@@ -17,15 +17,15 @@ use Rattle.ada_program.specs.WellFormed.{IsWellFormed, is_record_path, variable_
 use Rattle.ada_flow.specs.Tracking.{Tracks}
 use Rattle.ada_judged.specs.Fitting.{TracksComponents}
 use Rattle.ada_tracked.specs.Simple.{IsFrom}
-use Rattle.ada_beside.specs.Confined.{IsConfinedFrom, PathIsConfined, ExpressionIsConfined, LinksAreConfined, ConditionIsConfined, ItemIsConfined, ItemsAreConfined, RightIsConfined, DeclarationIsConfined, DeclarationsAreConfined, StatementIsConfined, StatementsAreConfined, BranchesAreConfined, HandlersAreConfined}
+use Rattle.ada_beside.specs.Confined.{IsConfinedFrom, IsCopiedFrom, PathIsConfined, ExpressionIsConfined, LinksAreConfined, ConditionIsConfined, ItemIsConfined, ItemsAreConfined, RightIsConfined, DeclarationIsConfined, DeclarationsAreConfined, StatementIsConfined, StatementsAreConfined, BranchesAreConfined, HandlersAreConfined}
 use Rattle.ada_quiet.specs.Bare.{has_bare_objects}
 use Rattle.ada_quiet.specs.InUse.{count_found}
-use Rattle.ada_quiet.specs.Simple.{is_plain_item, is_simple_right, is_simple_declaration, are_simple_declarations, is_simple_stmt, are_simple, are_simple_branches, are_simple_handlers, is_simple_body}
+use Rattle.ada_quiet.specs.Simple.{is_simple_declaration, are_simple_declarations, is_simple_stmt, are_simple, are_simple_branches, are_simple_handlers, is_simple_body}
 use Rattle.ada_typed.proofs.Bodies.{SeenFits, seen_fits, seen_as}
 use Rattle.ada_typed.proofs.Operators.{typed, unary_operand, binary_operand, chain_left}
 use Rattle.ada_sound.proofs.OnlyRows.{kind_below}
 use Rattle.ada_sound.proofs.OperationStarts.{apart}
-use Rattle.ada_sound.proofs.OrderlyBodies.{access_value, elsewhere_from, is_value, path_from, record_leads, right_value, scalar_value, tested_there, this_there, value_there, variable_orderly}
+use Rattle.ada_sound.proofs.OrderlyBodies.{access_value, is_value, path_from, record_leads, record_within, right_value, scalar_value, tested_there, this_there, value_there, variable_orderly}
 use Rattle.ada_sound.proofs.Roots.{none_behind}
 
 -- A component that is there is one of so many.
@@ -96,11 +96,13 @@ module _ (types : List TypeForm) (tracks : Tracks) (own : List VariableForm) (tr
   condition_confined None fit = tt
   condition_confined (Some e) fit = typed_confined Boolean e fit
 
-  -- Items, which copy records out of other objects alone (4.3.1).
-  record_confined : (p : RecordPathForm) → is_record_path types own p ≡ true → is_plain_item (item_of_record p) ≡ true → PathIsConfined tracks.first reaches p.object
-  record_confined p fit plain =
-      let leads = record_leads types own p fit in
-      confined_from p.object.of_record p.object.root p.object.selectors (elsewhere_from types tracks own tracking p.object.of_record p.object.root p.object.selectors plain leads) leads
+  -- Items, which copy records out of any object (4.3.1).
+  copied_from : (of_record : Bool) (root : ℕ) (cs : List ℕ) → root < tracks.first → is_some (selectors_kind types (root_kind of_record (variable_kind own root)) cs) ≡ true → IsCopiedFrom tracks.first reaches root cs
+  copied_from of_record root [] inside leads = inside
+  copied_from of_record root (c ∷ cs) inside leads = confined_from of_record root (c ∷ cs) inside leads
+
+  record_confined : (p : RecordPathForm) → is_record_path types own p ≡ true → IsCopiedFrom tracks.first reaches p.object.root p.object.selectors
+  record_confined p fit = copied_from p.object.of_record p.object.root p.object.selectors (record_within types tracks own tracking p fit) (record_leads types own p fit)
 
   path_item : (components : List ComponentKind) (path : PathForm) → first_fits types own components (item_of_path path) ≡ true → PathIsConfined tracks.first reaches path
   path_item [] path fit = absurd (cc fit)
@@ -114,22 +116,21 @@ module _ (types : List TypeForm) (tracks : Tracks) (own : List VariableForm) (tr
   value_item (component.Boolean initial ∷ components) e fit = typed_confined Boolean e fit
   value_item (component.Access access ∷ components) e fit = absurd (cc fit)
 
-  item_confined : (components : List ComponentKind) (i : ItemForm) → item_fits types own components i ≡ true → is_plain_item i ≡ true → ItemIsConfined tracks.first reaches i
-  item_confined components null_item fit plain = tt
-  item_confined components (item_of_path path) fit plain = path_item components path fit
-  item_confined components (item_of_value e) fit plain = value_item components e fit
-  item_confined components (item_of_record p) fit plain = record_confined p (apart (is_record_path types own p) _ fit).0 plain
+  item_confined : (components : List ComponentKind) (i : ItemForm) → item_fits types own components i ≡ true → ItemIsConfined tracks.first reaches i
+  item_confined components null_item fit = tt
+  item_confined components (item_of_path path) fit = path_item components path fit
+  item_confined components (item_of_value e) fit = value_item components e fit
+  item_confined components (item_of_record p) fit = record_confined p (apart (is_record_path types own p) _ fit).0
 
-  items_confined : (components : List ComponentKind) (items : List ItemForm) → items_fit types own components items ≡ true → list_all is_plain_item items ≡ true → ItemsAreConfined tracks.first reaches items
-  items_confined components [] fit plain = tt
-  items_confined components (i ∷ items) fit plain =
+  items_confined : (components : List ComponentKind) (items : List ItemForm) → items_fit types own components items ≡ true → ItemsAreConfined tracks.first reaches items
+  items_confined components [] fit = tt
+  items_confined components (i ∷ items) fit =
       let fits = apart _ _ fit in
-      let plains = apart _ _ plain in
-      (item_confined components i fits.0 plains.0, items_confined (drop (item_width types i) components) items fits.1 plains.1)
+      (item_confined components i fits.0, items_confined (drop (item_width types i) components) items fits.1)
 
-  filled_confined : (found : Option (List ComponentKind)) (items : List ItemForm) → is_filled types own found items ≡ true → list_all is_plain_item items ≡ true → ItemsAreConfined tracks.first reaches items
-  filled_confined None items fit plain = absurd (cc fit)
-  filled_confined (Some components) items fit plain = items_confined components items fit plain
+  filled_confined : (found : Option (List ComponentKind)) (items : List ItemForm) → is_filled types own found items ≡ true → ItemsAreConfined tracks.first reaches items
+  filled_confined None items fit = absurd (cc fit)
+  filled_confined (Some components) items fit = items_confined components items fit
 
   -- What is assigned (5.2).
   scalar_confined : (t : ScalarType) (right : RightForm) → scalar_fits types own t right ≡ true → RightIsConfined tracks.first reaches right
@@ -139,22 +140,22 @@ module _ (types : List TypeForm) (tracks : Tracks) (own : List VariableForm) (tr
   scalar_confined t (allocates_default access) fit = tt
   scalar_confined t (computes e) fit = typed_confined t e fit
 
-  value_confined : (access : ℕ) (right : RightForm) → access_fits types own access right ≡ true → is_simple_right types right ≡ true → RightIsConfined tracks.first reaches right
-  value_confined access nothing fit simple = tt
-  value_confined access (value_of path) fit simple = access_confined access path fit
-  value_confined access (allocates t items) fit simple =
+  value_confined : (access : ℕ) (right : RightForm) → access_fits types own access right ≡ true → RightIsConfined tracks.first reaches right
+  value_confined access nothing fit = tt
+  value_confined access (value_of path) fit = access_confined access path fit
+  value_confined access (allocates t items) fit =
       let all = apart _ _ fit in
       let two = apart _ _ all.0 in
-      filled_confined (reached_components types access) items two.1 (apart (has_bare_objects types t) (list_all is_plain_item items) simple).1
-  value_confined access (allocates_default t) fit simple = tt
-  value_confined access (computes e) fit simple = absurd (cc fit)
+      filled_confined (reached_components types access) items two.1
+  value_confined access (allocates_default t) fit = tt
+  value_confined access (computes e) fit = absurd (cc fit)
 
-  right_confined : (found : Option VariableKind) (right : RightForm) → right_fits types own found right ≡ true → is_simple_right types right ≡ true → RightIsConfined tracks.first reaches right
-  right_confined None right fit simple = absurd (cc fit)
-  right_confined (Some variable.Integer) right fit simple = scalar_confined Integer right fit
-  right_confined (Some variable.Boolean) right fit simple = scalar_confined Boolean right fit
-  right_confined (Some (variable.Access access)) right fit simple = value_confined access.0 right fit simple
-  right_confined (Some (variable.Record object)) right fit simple = absurd (cc fit)
+  right_confined : (found : Option VariableKind) (right : RightForm) → right_fits types own found right ≡ true → RightIsConfined tracks.first reaches right
+  right_confined None right fit = absurd (cc fit)
+  right_confined (Some variable.Integer) right fit = scalar_confined Integer right fit
+  right_confined (Some variable.Boolean) right fit = scalar_confined Boolean right fit
+  right_confined (Some (variable.Access access)) right fit = value_confined access.0 right fit
+  right_confined (Some (variable.Record object)) right fit = absurd (cc fit)
 
   -- Declarations of variables (3.3.1).
   declaration_confined : (d : DeclarationForm) → initial_fits types own d ≡ true → is_simple_declaration types d ≡ true → DeclarationIsConfined tracks.first reaches d
@@ -163,7 +164,7 @@ module _ (types : List TypeForm) (tracks : Tracks) (own : List VariableForm) (tr
   declaration_confined (declares x right) fit simple =
       let all = apart _ _ fit in
       let two = apart _ _ all.0 in
-      (variable_orderly types tracks own tracking x (right_value types own (variable_kind own x) right two.1), right_confined (variable_kind own x) right two.1 simple)
+      (variable_orderly types tracks own tracking x (right_value types own (variable_kind own x) right two.1), right_confined (variable_kind own x) right two.1)
   declaration_confined (declares_record x t initial) fit simple = absurd (cc simple)
 
   initials_confined : (ds : List DeclarationForm) → list_all (initial_fits types own) ds ≡ true → are_simple_declarations types ds ≡ true → DeclarationsAreConfined tracks.first reaches ds
@@ -183,7 +184,7 @@ module _ (types : List TypeForm) (tracks : Tracks) (own : List VariableForm) (tr
       statement_confined inside skips fit simple = tt
       statement_confined inside (assigns target right) fit simple =
           let fits = (apart _ _ fit).0 in
-          (path_confined target (right_value types own (path_kind types own target) right fits), right_confined (path_kind types own target) right fits simple)
+          (path_confined target (right_value types own (path_kind types own target) right fits), right_confined (path_kind types own target) right fits)
       statement_confined inside (assigns_record target items) fit simple = absurd (cc simple)
       statement_confined inside (frees access path) fit simple = absurd (cc simple)
       statement_confined inside (gets target) fit simple =

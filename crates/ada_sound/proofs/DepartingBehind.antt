@@ -12,6 +12,7 @@ use Rattle.ada_deeds.specs.Implicit.{implicit_of, record_at}
 use Rattle.ada_deeds.specs.Within.{does_by}
 use Rattle.ada_finalized.specs.Law.{NoOperationRuns}
 use Rattle.ada_program.specs.declared.program.Program.{Program}
+use Rattle.ada_program.specs.declared.program.TypeDefinition.{TypeDefinition}
 use Rattle.ada_program.specs.Nested.{Callees}
 use Rattle.ada_program.specs.ProgramForm.{ProgramForm, TypeForm, body_forms}
 use Rattle.ada_meaning.specs.declared.state.Id.{Id}
@@ -292,8 +293,8 @@ body_ends program behind Exiting acts s = record { after = _; is = refl; control
 body_ends program behind Returning acts s = record { after = _; is = refl; control = refl; heap = refl; masters = refl }
 
 -- Such a step looks at no object.
-pub returns_untouched : (ghosts : Id → Bool) (mode : Mode) (behind : Control) (acts : List (Activation Value)) (s : State) → Untouched none_hidden ghosts (state_with mode (Returns [] [] ∷ behind) acts s)
-returns_untouched ghosts Running behind acts s = tt
-returns_untouched ghosts (Raising e) behind acts s = tt
-returns_untouched ghosts Exiting behind acts s = tt
-returns_untouched ghosts Returning behind acts s = tt
+pub returns_untouched : (types : List TypeDefinition) (ghosts : Id → Bool) (mode : Mode) (behind : Control) (acts : List (Activation Value)) (s : State) → Untouched types none_hidden ghosts (state_with mode (Returns [] [] ∷ behind) acts s)
+returns_untouched types ghosts Running behind acts s = tt
+returns_untouched types ghosts (Raising e) behind acts s = tt
+returns_untouched types ghosts Exiting behind acts s = tt
+returns_untouched types ghosts Returning behind acts s = tt

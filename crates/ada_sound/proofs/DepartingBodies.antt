@@ -175,7 +175,7 @@ module _ (program : Program) (s : State) (sound : Sound program s) (w : Within p
         ))
 
     -- They hold in the state that stands for it.
-    grounds_touching : Untouched none_hidden w.ghosts s → Grounds program v
+    grounds_touching : Untouched tds none_hidden w.ghosts s → Grounds program v
     grounds_touching untouched =
         seen_grounds_within program w.seen (grounds program s sound) sound.reached (words_out program s sound.reached) untouched
         (reaching_untreated p shuns w.apart w.ghosts none_unnamed w.behind w.lower s w.reaching) not_calm frees_none
@@ -195,7 +195,7 @@ module _ (program : Program) (s : State) (sound : Sound program s) (w : Within p
       (subst (λ (ms : List Master). AllPairs Falls (items_of ms)) (sym (seen_masters w.seen)) falls)
 
   -- What comes next of the state that stands for the real one.
-  seen_goes : Untouched none_hidden w.ghosts s → Operates program v ⊎ Touching program v → GoesTouching program v (next tds bodies v)
+  seen_goes : Untouched tds none_hidden w.ghosts s → Operates program v ⊎ Touching program v → GoesTouching program v (next tds bodies v)
   seen_goes untouched (inl o) = operating_goes program v o
   seen_goes untouched (inr f) = touching_step program v (grounds_touching f untouched) f
 
@@ -213,11 +213,11 @@ module _ (program : Program) (s : State) (sound : Sound program s) (w : Within p
   -- The bodies go on.
   module _ (on : s.control ≡ Returns [] [] ∷ w.behind → ⊥) where
     -- Each step of the real state looks at no ghost.
-    reach : Untouched none_hidden w.ghosts s × AllGoOn (GoesOn p shuns w.apart w.ghosts none_unnamed w.behind w.lower s.heap) (next tds bodies s)
+    reach : Untouched tds none_hidden w.ghosts s × AllGoOn (GoesOn p shuns w.apart w.ghosts none_unnamed w.behind w.lower s.heap) (next tds bodies s)
     reach = stays_reaching program sound.well shuns w.apart w.are_apart w.ghosts none_unnamed w.behind w.lower s sound.typed w.reaching (record { on = on; houses = houses })
 
     -- So it is with the one that stands for it.
-    reach_too : Untouched none_hidden w.ghosts v × AllGoOn (GoesOn p shuns w.apart w.ghosts none_unnamed w.behind w.lower v.heap) (next tds bodies v)
+    reach_too : Untouched tds none_hidden w.ghosts v × AllGoOn (GoesOn p shuns w.apart w.ghosts none_unnamed w.behind w.lower v.heap) (next tds bodies v)
     reach_too =
         stays_reaching program sound.well shuns w.apart w.are_apart w.ghosts none_unnamed w.behind w.lower v (seen_typed w.seen p sound.typed) reaching_too
         (record { on = λ is. on (sym (seen_control w.seen) ∙ is); houses = houses_too })
@@ -319,8 +319,8 @@ module _ (program : Program) (s : State) (sound : Sound program s) (w : Within p
     view_end = subst (BodyEnds program w.behind) (sym view_here) (body_ends program w.behind v.mode v.activations v)
 
     -- It looks at no object.
-    untouched_here : Untouched none_hidden w.ghosts s
-    untouched_here = subst (Untouched none_hidden w.ghosts) (sym here) (returns_untouched w.ghosts s.mode w.behind s.activations s)
+    untouched_here : Untouched tds none_hidden w.ghosts s
+    untouched_here = subst (Untouched tds none_hidden w.ghosts) (sym here) (returns_untouched tds w.ghosts s.mode w.behind s.activations s)
 
     -- The real state behind it.
     abbrev after : State

@@ -252,6 +252,8 @@ pub mod SparingLooks
 pub mod SparingSteps
 -- it looks at that object by its formal parameter alone
 pub mod Sparing
+-- what it copies out of that object has no component of an access type
+pub mod CopiedBare
 -- its body follows and frees no value of the object's access type
 pub mod ShunsAround
 -- its formal parameter stays

@@ -16,10 +16,10 @@ use Rattle.ada_program.specs.WellFormed.{IsWellFormed, is_record_path, variable_
 use Rattle.ada_flow.specs.Tracking.{Tracks}
 use Rattle.ada_tracked.specs.Simple.{IsVariable, IsFrom}
 use Rattle.ada_judged.specs.Fitting.{TracksComponents}
-use Rattle.ada_judged.specs.Obeying.{PathIsOrderly, ExpressionIsOrderly, LinksAreOrderly, ConditionIsOrderly, ItemIsOrderly, ItemsAreOrderly, RightIsOrderly, DeclarationIsOrderly, DeclarationsAreOrderly, StatementIsOrderly, StatementsAreOrderly, BranchesAreOrderly, HandlersAreOrderly, BodyIsOrderly}
+use Rattle.ada_judged.specs.Obeying.{PathIsOrderly, WayIsOrderly, ExpressionIsOrderly, LinksAreOrderly, ConditionIsOrderly, ItemIsOrderly, ItemsAreOrderly, RightIsOrderly, DeclarationIsOrderly, DeclarationsAreOrderly, StatementIsOrderly, StatementsAreOrderly, BranchesAreOrderly, HandlersAreOrderly, BodyIsOrderly}
 use Rattle.ada_judged.proofs.FittingRecords.{statements_record}
 use Rattle.ada_quiet.specs.Bare.{has_bare_objects}
-use Rattle.ada_quiet.specs.Simple.{holds_one_value, leads_elsewhere, is_plain_item, is_simple_right, is_simple_declaration, are_simple_declarations, is_simple_stmt, are_simple, are_simple_branches, are_simple_handlers, is_simple_body}
+use Rattle.ada_quiet.specs.Simple.{holds_one_value, is_simple_declaration, are_simple_declarations, is_simple_stmt, are_simple, are_simple_branches, are_simple_handlers, is_simple_body}
 use Rattle.ada_typed.proofs.Bodies.{SeenFits, seen_fits, seen_as}
 use Rattle.ada_typed.proofs.Operators.{typed, unary_operand, binary_operand, chain_left}
 use Rattle.ada_sound.proofs.Copied.{record_there}
@@ -162,17 +162,12 @@ module _ (types : List TypeForm) (tracks : Tracks) (own : List VariableForm) (tr
   condition_orderly None fit = tt
   condition_orderly (Some e) fit = typed_orderly Boolean e fit
 
-  -- A path that leads into another object than that of the formal parameter does not name that parameter alone.
-  pub elsewhere_from : (of_record : Bool) (root : ℕ) (cs : List ℕ) → leads_elsewhere root cs ≡ true → is_some (selectors_kind types (root_kind of_record (variable_kind own root)) cs) ≡ true → IsFrom tracks.first root cs
-  elsewhere_from of_record zero [] elsewhere leads = absurd (cc elsewhere)
-  elsewhere_from of_record (suc x) [] elsewhere leads = (omega arith, root_within (suc x) (root_there types of_record (variable_kind own (suc x)) [] leads))
-  elsewhere_from of_record root (c ∷ cs) elsewhere leads = root_within root (root_there types of_record (variable_kind own root) (c ∷ cs) leads)
+  -- Items, which copy records out of any object (4.3.1).
+  pub record_within : (p : RecordPathForm) → is_record_path types own p ≡ true → p.object.root < tracks.first
+  record_within p fit = root_within p.object.root (root_there types p.object.of_record (variable_kind own p.object.root) p.object.selectors (record_leads types own p fit))
 
-  -- Items, which copy records out of other objects alone (4.3.1).
-  record_orderly : (p : RecordPathForm) → is_record_path types own p ≡ true → is_plain_item (item_of_record p) ≡ true → PathIsOrderly tracks p.object
-  record_orderly p fit plain =
-      let leads = record_leads types own p fit in
-      (elsewhere_from p.object.of_record p.object.root p.object.selectors plain leads, path_whole p.object.of_record p.object.root p.object.selectors leads)
+  record_orderly : (p : RecordPathForm) → is_record_path types own p ≡ true → WayIsOrderly tracks p.object
+  record_orderly p fit = (record_within p fit, path_whole p.object.of_record p.object.root p.object.selectors (record_leads types own p fit))
 
   path_item : (components : List ComponentKind) (path : PathForm) → first_fits types own components (item_of_path path) ≡ true → PathIsOrderly tracks path
   path_item [] path fit = absurd (cc fit)
@@ -186,22 +181,21 @@ module _ (types : List TypeForm) (tracks : Tracks) (own : List VariableForm) (tr
   value_item (component.Boolean initial ∷ components) e fit = typed_orderly Boolean e fit
   value_item (component.Access access ∷ components) e fit = absurd (cc fit)
 
-  item_orderly : (components : List ComponentKind) (i : ItemForm) → item_fits types own components i ≡ true → is_plain_item i ≡ true → ItemIsOrderly tracks i
-  item_orderly components null_item fit plain = tt
-  item_orderly components (item_of_path path) fit plain = path_item components path fit
-  item_orderly components (item_of_value e) fit plain = value_item components e fit
-  item_orderly components (item_of_record p) fit plain = record_orderly p (apart (is_record_path types own p) _ fit).0 plain
+  item_orderly : (components : List ComponentKind) (i : ItemForm) → item_fits types own components i ≡ true → ItemIsOrderly tracks i
+  item_orderly components null_item fit = tt
+  item_orderly components (item_of_path path) fit = path_item components path fit
+  item_orderly components (item_of_value e) fit = value_item components e fit
+  item_orderly components (item_of_record p) fit = record_orderly p (apart (is_record_path types own p) _ fit).0
 
-  items_orderly : (components : List ComponentKind) (items : List ItemForm) → items_fit types own components items ≡ true → list_all is_plain_item items ≡ true → ItemsAreOrderly tracks items
-  items_orderly components [] fit plain = tt
-  items_orderly components (i ∷ items) fit plain =
+  items_orderly : (components : List ComponentKind) (items : List ItemForm) → items_fit types own components items ≡ true → ItemsAreOrderly tracks items
+  items_orderly components [] fit = tt
+  items_orderly components (i ∷ items) fit =
       let fits = apart _ _ fit in
-      let plains = apart _ _ plain in
-      (item_orderly components i fits.0 plains.0, items_orderly (drop (item_width types i) components) items fits.1 plains.1)
+      (item_orderly components i fits.0, items_orderly (drop (item_width types i) components) items fits.1)
 
-  filled_orderly : (found : Option (List ComponentKind)) (items : List ItemForm) → is_filled types own found items ≡ true → list_all is_plain_item items ≡ true → ItemsAreOrderly tracks items
-  filled_orderly None items fit plain = absurd (cc fit)
-  filled_orderly (Some components) items fit plain = items_orderly components items fit plain
+  filled_orderly : (found : Option (List ComponentKind)) (items : List ItemForm) → is_filled types own found items ≡ true → ItemsAreOrderly tracks items
+  filled_orderly None items fit = absurd (cc fit)
+  filled_orderly (Some components) items fit = items_orderly components items fit
 
   -- What is assigned (5.2).
   scalar_orderly : (t : ScalarType) (right : RightForm) → scalar_fits types own t right ≡ true → RightIsOrderly tracks right
@@ -211,22 +205,22 @@ module _ (types : List TypeForm) (tracks : Tracks) (own : List VariableForm) (tr
   scalar_orderly t (allocates_default access) fit = tt
   scalar_orderly t (computes e) fit = typed_orderly t e fit
 
-  value_orderly : (access : ℕ) (right : RightForm) → access_fits types own access right ≡ true → is_simple_right types right ≡ true → RightIsOrderly tracks right
-  value_orderly access nothing fit simple = tt
-  value_orderly access (value_of path) fit simple = access_orderly access path fit
-  value_orderly access (allocates t items) fit simple =
+  value_orderly : (access : ℕ) (right : RightForm) → access_fits types own access right ≡ true → RightIsOrderly tracks right
+  value_orderly access nothing fit = tt
+  value_orderly access (value_of path) fit = access_orderly access path fit
+  value_orderly access (allocates t items) fit =
       let all = apart _ _ fit in
       let two = apart _ _ all.0 in
-      filled_orderly (reached_components types access) items two.1 (apart (has_bare_objects types t) (list_all is_plain_item items) simple).1
-  value_orderly access (allocates_default t) fit simple = tt
-  value_orderly access (computes e) fit simple = absurd (cc fit)
+      filled_orderly (reached_components types access) items two.1
+  value_orderly access (allocates_default t) fit = tt
+  value_orderly access (computes e) fit = absurd (cc fit)
 
-  right_orderly : (found : Option VariableKind) (right : RightForm) → right_fits types own found right ≡ true → is_simple_right types right ≡ true → RightIsOrderly tracks right
-  right_orderly None right fit simple = absurd (cc fit)
-  right_orderly (Some variable.Integer) right fit simple = scalar_orderly Integer right fit
-  right_orderly (Some variable.Boolean) right fit simple = scalar_orderly Boolean right fit
-  right_orderly (Some (variable.Access access)) right fit simple = value_orderly access.0 right fit simple
-  right_orderly (Some (variable.Record object)) right fit simple = absurd (cc fit)
+  right_orderly : (found : Option VariableKind) (right : RightForm) → right_fits types own found right ≡ true → RightIsOrderly tracks right
+  right_orderly None right fit = absurd (cc fit)
+  right_orderly (Some variable.Integer) right fit = scalar_orderly Integer right fit
+  right_orderly (Some variable.Boolean) right fit = scalar_orderly Boolean right fit
+  right_orderly (Some (variable.Access access)) right fit = value_orderly access.0 right fit
+  right_orderly (Some (variable.Record object)) right fit = absurd (cc fit)
 
   -- Declarations of variables (3.3.1).
   declaration_orderly : (d : DeclarationForm) → initial_fits types own d ≡ true → is_simple_declaration types d ≡ true → DeclarationIsOrderly tracks d
@@ -235,7 +229,7 @@ module _ (types : List TypeForm) (tracks : Tracks) (own : List VariableForm) (tr
   declaration_orderly (declares x right) fit simple =
       let all = apart _ _ fit in
       let two = apart _ _ all.0 in
-      (variable_orderly x (right_value types own (variable_kind own x) right two.1), right_orderly (variable_kind own x) right two.1 simple)
+      (variable_orderly x (right_value types own (variable_kind own x) right two.1), right_orderly (variable_kind own x) right two.1)
   declaration_orderly (declares_record x t initial) fit simple = absurd (cc simple)
 
   initials_orderly : (ds : List DeclarationForm) → list_all (initial_fits types own) ds ≡ true → are_simple_declarations types ds ≡ true → DeclarationsAreOrderly tracks ds
@@ -255,7 +249,7 @@ module _ (types : List TypeForm) (tracks : Tracks) (own : List VariableForm) (tr
       statement_orderly inside skips fit simple = tt
       statement_orderly inside (assigns target right) fit simple =
           let fits = (apart _ _ fit).0 in
-          (path_orderly target (right_value types own (path_kind types own target) right fits), right_orderly (path_kind types own target) right fits simple)
+          (path_orderly target (right_value types own (path_kind types own target) right fits), right_orderly (path_kind types own target) right fits)
       statement_orderly inside (assigns_record target items) fit simple = absurd (cc simple)
       statement_orderly inside (frees access path) fit simple = freed_orderly access path (apart _ _ fit).0
       statement_orderly inside (gets target) fit simple =

@@ -313,7 +313,7 @@ module _ (program : Program) {types : List ℕ} {item : ℕ} {ghosts : Id → Bo
 
       -- The state that stands for the real one has the grounds as well, where this is so of what is treated next.
       grounds_so :
-          ((w : Value) (treatment : Treatment) (tasks : List Task) (k : Control) → s.control ≡ frame.Treats w treatment tasks ∷ k → Untouched none_hidden ghosts s)
+          ((w : Value) (treatment : Treatment) (tasks : List Task) (k : Control) → s.control ≡ frame.Treats w treatment tasks ∷ k → Untouched tds none_hidden ghosts s)
           → (IsCalm (behind_call v.control) → (forms : List TypeForm) (outer : Outsiders) → FinalizesIn any_type forms outer tds bodies v.mode v.control v) → Grounds program v
       grounds_so untouched finalizes = record {
         well = grounds.well;
@@ -352,7 +352,7 @@ module _ (program : Program) {types : List ℕ} {item : ℕ} {ghosts : Id → Bo
 
     -- While an operation runs that frees no objects of those types, and looks at no ghost.
     pub seen_grounds_within :
-        AllOut s.heap → Untouched none_hidden ghosts s
+        AllOut s.heap → Untouched tds none_hidden ghosts s
         → ((w : Value) (treatment : Treatment) (tasks : List Task) (k : Control) → s.control ≡ frame.Treats w treatment tasks ∷ k → is_ghost ghosts w ≡ false)
         → (IsCalm (behind_call s.control) → ⊥) → ((t : ℕ) → has_gone types t ≡ true → may_free program s t ≡ false) → Grounds program v
     seen_grounds_within out untouched untreated runs spares =
@@ -388,7 +388,7 @@ module _ (program : Program) {types : List ℕ} {item : ℕ} {ghosts : Id → Bo
       -- So the step looks at no ghost.
       left_untouched :
           (m : Mode) (k : Control) → s.mode ≡ m → s.control ≡ k → m ≡ Running → (w : Value) (treatment : Treatment) (tasks : List Task) (j : Control) → k ≡ frame.Treats w treatment tasks ∷ j
-          → is_ghost ghosts w ≡ false → Untouched none_hidden ghosts s
+          → is_ghost ghosts w ≡ false → Untouched tds none_hidden ghosts s
       left_untouched m k mode control runs w treatment tasks j is plain = rw (mode, runs, control, is) plain
 
       -- So the state that stands for the real one has its grounds there.

@@ -15,7 +15,7 @@ use Rattle.ada_program.specs.Form.{RightForm, nothing, value_of, allocates, allo
 use Rattle.ada_program.specs.ProgramForm.{TypeForm, record_of, access_to, object_of, VariableForm, BodyForm, ProgramForm, program_form, seen_by}
 use Rattle.ada_program.specs.WellFormed.{IsWellFormed, Profile, callable_in, choice_fits, condition_fits, declarations_fit, designated_in, designated_type, finalization_of, has_statement, has_type, is_access, is_freed_by, is_type, names_borrower, path_access, path_kind, same_record, scalar_of, statement_fits, stmts_fit, branches_fit, handlers_fit, value_access, variable_kind}
 use Rattle.ada_quiet.specs.Bare.{has_bare_objects, is_bare_access}
-use Rattle.ada_quiet.specs.Simple.{holds_one_value, is_plain_item, is_simple_right, are_simple_declarations, is_simple_stmt, are_simple, are_simple_branches, are_simple_handlers, is_simple_body}
+use Rattle.ada_quiet.specs.Simple.{holds_one_value, is_simple_right, are_simple_declarations, is_simple_stmt, are_simple, are_simple_branches, are_simple_handlers, is_simple_body}
 use Rattle.ada_deeds.specs.declared.deed.Callee.TheVariants as callee
 use Rattle.ada_deeds.specs.declared.deed.Deed.{Deed}
 use Rattle.ada_deeds.specs.declared.deed.Deed.TheVariants.{Frees, Follows}
@@ -84,7 +84,7 @@ module _ (program : Program) (variables : List VariableForm) (texts exceptions :
   right_shaped (value_of path) is = path_shaped types apart variables path
   right_shaped (allocates access items) is =
       let test = item_shuns types (λ t. false) apart variables in
-      and_from (has_bare_objects types access) (list_all test items) (and_parts (has_bare_objects types access) (list_all is_plain_item items) is).0
+      and_from (has_bare_objects types access) (list_all test items) is
       (all_so test (item_shaped types apart variables) items)
   right_shaped (allocates_default access) is = or_left (has_bare_objects types access) false is
   right_shaped (computes e) is = expression_shaped types apart variables e

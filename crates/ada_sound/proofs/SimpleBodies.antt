@@ -8,7 +8,7 @@ use Rattle.ada_program.specs.Nested.{Callees, body_nests}
 use Rattle.ada_program.specs.ProgramForm.{TypeForm, BodyForm}
 use Rattle.ada_quiet.specs.Bare.{has_bare_objects}
 use Rattle.ada_quiet.specs.Frugal.{Thrift, allocates_frugally, are_frugal_declarations, is_frugal_stmt, are_frugal, are_frugal_branches, are_frugal_handlers, is_frugal_body}
-use Rattle.ada_quiet.specs.Simple.{is_plain_item, is_simple_right, are_simple_declarations, is_simple_stmt, are_simple, are_simple_branches, are_simple_handlers, is_simple_body, holds_one_value}
+use Rattle.ada_quiet.specs.Simple.{is_simple_right, are_simple_declarations, is_simple_stmt, are_simple, are_simple_branches, are_simple_handlers, is_simple_body, holds_one_value}
 use Rattle.ada_typed.proofs.OfKinds.{and_both}
 use Rattle.ada_scopes.proofs.Lacked.{KindsOpen}
 use Rattle.ada_sound.proofs.FrugalBodies.{HasAll, calling_none, lone_nests}
@@ -20,7 +20,7 @@ module _ (frugal : Thrift) where
   frugal_right : (right : RightForm) → is_simple_right frugal.types right ≡ true → allocates_frugally frugal right ≡ true
   frugal_right nothing is = refl
   frugal_right (value_of path) is = refl
-  frugal_right (allocates access items) is = (apart (has_bare_objects frugal.types access) (list_all is_plain_item items) is).0
+  frugal_right (allocates access items) is = is
   frugal_right (allocates_default access) is = refl
   frugal_right (computes e) is = refl
 
@@ -72,7 +72,7 @@ module _ (allowance : Allowance) where
   thrifty_right : (right : RightForm) → is_simple_right allowance.types right ≡ true → allocates_thriftily allowance right ≡ true
   thrifty_right nothing is = refl
   thrifty_right (value_of path) is = refl
-  thrifty_right (allocates access items) is = (apart (has_bare_objects allowance.types access) (list_all is_plain_item items) is).0
+  thrifty_right (allocates access items) is = is
   thrifty_right (allocates_default access) is = or_right allowance.objects (has_bare_objects allowance.types access) is
   thrifty_right (computes e) is = refl
 

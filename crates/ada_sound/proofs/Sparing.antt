@@ -36,7 +36,7 @@ use Rattle.ada_reaching.proofs.Paths.{IsSound}
 use Rattle.ada_reaching.proofs.Selections.{bare_tasks}
 use Rattle.ada_sound.proofs.FrugalControl.{is_return_first}
 use Rattle.ada_sound.proofs.Invariant.{Control}
-use Rattle.ada_sound.proofs.SparingLooks.{SoughtIsOther, first_elsewhere}
+use Rattle.ada_sound.proofs.SparingLooks.{SoughtIsOther, NextIsBare, first_elsewhere}
 use Rattle.ada_sound.proofs.SparingSteps.{Sought, calm_sought, step_sought}
 use Rattle.ada_sound.specs.Agreement.{running_procedure}
 pub use Rattle.ada_sound.proofs.SparingLooks.{no_ghosts}
@@ -56,7 +56,7 @@ bare_apart program = record {
 -- What is known of a state of such a body, where the object is of this access type.
 pub record Sparing (program : Program) (o : Id) (around : ℕ) (behind : Control) (lower : List Master) (s : State) : Type 0 where
   pub reaching : IsReaching (program_form program) (is_around around) (bare_apart program) no_ghosts none_unnamed behind lower s
-  pub sought : SoughtIsOther o s.mode s.control (operands s)
+  pub sought : SoughtIsOther (program_form program).types o s.mode s.control (operands s)
 
 -- It holds where the body begins.
 pub begins_sparing :
@@ -67,7 +67,7 @@ begins_sparing program number b there around shuns o place behind s = record {
   reaching =
       operation_reaches (program_form program) (is_around around) (bare_apart program) no_ghosts none_unnamed number b (Part o place) behind s there shuns
       (λ q is. absurd (cc)) (λ q is. absurd (cc)) (λ q y is at listed. absurd (cc)) refl;
-  sought = calm_sought o s.mode (frame.Elaborates b.declarations b.statements b.handlers ∷ frame.Returns [] [] ∷ behind) [] refl;
+  sought = calm_sought (program_form program).types o s.mode (frame.Elaborates b.declarations b.statements b.handlers ∷ frame.Returns [] [] ∷ behind) [] refl;
 }
 
 -- Nothing is left of the finalization of an object without controlled parts.
@@ -120,22 +120,24 @@ module _ (program : Program) (s : State) (o : Id) (x : Object) (found : object_a
       → LeftShuns p (is_around x.cell.access) (bare_apart program) no_ghosts none_unnamed behind lower (procedure_of s.activations) k upper
       (older s.activations)
       → FirstIsRooted p.types (seen_in (procedure_of s.activations) p).variables m k
-      → OperandSeeks p.types (is_around x.cell.access) (bare_apart program) no_ghosts s.heap m k (operands s) → SoughtIsOther o m k (operands s)
-      → FirstLooksElsewhere o s m k × AllGoOn (Sought o) (next program.types.items (body_forms program) (record s { mode = m; control = k }))
-  both_spare m [] simple inner left root seeks sought = absurd left
-  both_spare m (f ∷ k) simple inner left root seeks sought =
+      → OperandSeeks p.types (is_around x.cell.access) (bare_apart program) no_ghosts s.heap m k (operands s) → SoughtIsOther p.types o m k (operands s)
+      → NextIsBare p.types m k
+      → FirstLooksElsewhere o s m k × AllGoOn (Sought p.types o) (next program.types.items (body_forms program) (record s { mode = m; control = k }))
+  both_spare m [] simple inner left root seeks sought bare = absurd left
+  both_spare m (f ∷ k) simple inner left root seeks sought bare =
       let variables = (seen_in (procedure_of s.activations) p).variables in
       let own = unless _ (is_return f) inner simple in
       let h = further _ _ (is_return f) inner left in (
         first_elsewhere p.types variables s sound plain o x found (bare_apart program) p.bodies first m f k own.0 h.0 h.1 root seeks sought,
         step_sought p.types variables s sound plain o x found (bare_apart program) program.types.items (body_forms program) first m f k own.0 h.0 h.1 root seeks
-            sought,
+            sought bare,
       )
 
 -- It goes on so, whatever comes next.
 goes_sparing :
     (program : Program) (o : Id) (around : ℕ) (behind : Control) (lower : List Master) (before : List Object) (n : Next)
-    → AllGoOn (GoesOn (program_form program) (is_around around) (bare_apart program) no_ghosts none_unnamed behind lower before) n → AllGoOn (Sought o) n
+    → AllGoOn (GoesOn (program_form program) (is_around around) (bare_apart program) no_ghosts none_unnamed behind lower before) n
+    → AllGoOn (Sought (program_form program).types o) n
     → AllGoOn (Sparing program o around behind lower) n
 goes_sparing program o around behind lower before (halts h) on sought = tt
 goes_sparing program o around behind lower before (moves e s) on sought = record { reaching = on.reaching; sought = sought }
@@ -150,14 +152,15 @@ pub stays_sparing :
     (program : Program) → IsWellFormed (program_form program) → (s : State) → typed.Typed (program_form program) s
     → list_all (λ y. holds_one_value y.kind) (drop 1 (seen_in (running_procedure s) (program_form program)).variables) ≡ true
     → (w : View) (x : Object) → object_at s.heap w.object ≡ Some x → BodyIsSimple w.tracks.first s.control → is_return_first s.control ≡ false
-    → FirstHousesIts s.control s.heap s.masters → (behind : Control) (lower : List Master) → Sparing program w.object x.cell.access behind lower s
+    → FirstHousesIts s.control s.heap s.masters → NextIsBare (program_form program).types s.mode s.control → (behind : Control) (lower : List Master)
+    → Sparing program w.object x.cell.access behind lower s
     → LooksElsewhere w s × AllGoOn (Sparing program w.object x.cell.access behind lower) (next program.types.items (body_forms program) s)
-stays_sparing program well s typing plain w x found simple inner houses behind lower sparing =
+stays_sparing program well s typing plain w x found simple inner houses bare behind lower sparing =
     let around = x.cell.access in
     let reaching = sparing.reaching in
     let both =
     both_spare program s w.object x found (sound_now program well s typing) plain w.tracks.first behind lower reaching.upper s.mode s.control simple inner
-    reaching.control (rooted_now program s typing) reaching.seeks sparing.sought in
+    reaching.control (rooted_now program s typing) reaching.seeks sparing.sought bare in
     let on = stays_reaching program well (is_around around) (bare_apart program) (are_bare program (is_around around)) no_ghosts none_unnamed behind lower s
     typing reaching (record { on = λ ends. true≢false (sym (ap is_return_first ends) ∙ inner); houses = houses }) in
     (both.0, goes_sparing program w.object around behind lower s.heap (next program.types.items (body_forms program) s) on.1 both.1)

@@ -8,6 +8,7 @@ use Rattle.ada_program.specs.declared.program.VariableKind.TheVariants as variab
 use Rattle.ada_program.specs.Form.{ExpressionForm, reads, is_null, ItemForm, item_of_path, item_of_record, RightForm, value_of, assigns, frees, gets, StmtsForm, no_stmts, a_stmt}
 use Rattle.ada_program.specs.ProgramForm.{TypeForm, VariableForm, BodyForm}
 use Rattle.ada_program.specs.WellFormed.{path_kind, selected_kind, value_access}
+use Rattle.ada_flow.specs.Flow.{is_owning_record}
 use Rattle.ada_meaning.specs.declared.state.Id.{Id}
 use Rattle.ada_meaning.specs.declared.state.Mode.{Mode}
 use Rattle.ada_meaning.specs.declared.state.Mode.TheVariants.{Running, Raising, Exiting, Returning}
@@ -42,19 +43,28 @@ begins_following [] = false
 begins_following (frame.Follows cs ∷ k) = true
 begins_following (f ∷ k) = false
 
--- A record is copied next.
-abbrev pub begins_copying : Control → Bool
-begins_copying [] = false
-begins_copying (frame.Copies c t ∷ k) = true
-begins_copying (f ∷ k) = false
+-- A record that is copied next has no component of an access type.
+abbrev pub CopiesBare : List TypeForm → Control → Type 0
+CopiesBare types [] = Unit {0}
+CopiesBare types (frame.Copies c t ∷ k) = is_owning_record types t ≡ false
+CopiesBare types (f ∷ k) = Unit {0}
 
--- Where selectors are followed next, or a record is copied, and no jump is on its way, the newest operand leads to another object; behind selectors that are
--- followed no others wait, and no jump comes to any.
-abbrev pub SoughtIsOther : Id → Mode → Control → (operands : List Value) → Type 0
-SoughtIsOther o Running (frame.Follows cs ∷ k) vs = IsOther o (first_or Null vs) × (begins_following k ≡ false)
-SoughtIsOther o Running (frame.Copies c t ∷ k) vs = IsOther o (first_or Null vs)
-SoughtIsOther o Running k vs = Unit {0}
-SoughtIsOther o m k vs = begins_following k ≡ false
+-- Where selectors are followed next, and no jump is on its way, the newest operand leads to another object; behind selectors that are followed no others wait, and
+-- no jump comes to any. A record that is copied next, or behind them, has no component of an access type.
+abbrev pub SoughtIsOther : List TypeForm → Id → Mode → Control → (operands : List Value) → Type 0
+SoughtIsOther types o Running (frame.Follows cs ∷ k) vs = IsOther o (first_or Null vs) × (begins_following k ≡ false) × CopiesBare types k
+SoughtIsOther types o Running k vs = CopiesBare types k
+SoughtIsOther types o m k vs = begins_following k ≡ false
+
+-- So it is with a record that is an item which is evaluated next.
+abbrev pub ItemIsBare : List TypeForm → List ItemForm → Type 0
+ItemIsBare types (item_of_record q ∷ is) = is_owning_record types q.record_type ≡ false
+ItemIsBare types is = Unit {0}
+
+-- Where items are evaluated next, and no jump is on its way.
+abbrev pub NextIsBare : List TypeForm → Mode → Control → Type 0
+NextIsBare types Running (frame.Fills items ∷ k) = ItemIsBare types items
+NextIsBare types m k = Unit {0}
 
 -- Where what is left to do begins with no frame that looks for an object, none waits for the holder of a component.
 calm_awaits : (k : Control) → seeks_nothing k ≡ true → awaits_holder k ≡ false
@@ -83,14 +93,6 @@ awaited_may types shuns apart may u (frame.Targets c right ∷ k) is seeks = see
 awaited_may types shuns apart may u (frame.Receives c ∷ k) is seeks = seeks
 awaited_may types shuns apart may u (frame.FreesIn access c ∷ k) is seeks = seeks.0
 awaited_may types shuns apart may u (f ∷ k) is seeks = absurd (cc)
-
--- So may what is copied.
-pub copied_may :
-    (types : List TypeForm) (shuns : ℕ → Bool) (apart : Apart) (may : Bool) (u : ℕ) (k : Control) → begins_copying k ≡ true
-    → Seeks types shuns apart may u k → may ≡ true
-copied_may types shuns apart may u [] is seeks = absurd (cc)
-copied_may types shuns apart may u (frame.Copies c t ∷ k) is seeks = seeks
-copied_may types shuns apart may u (f ∷ k) is seeks = absurd (cc)
 
 -- What is held may be followed, if it is no access value of a type that is shunned.
 pub may_so :
@@ -217,29 +219,28 @@ module _ (types : List TypeForm) (variables : List VariableForm) (s : State) (so
     -- A frame that follows no selectors looks elsewhere.
     frame_elsewhere :
         (f : Frame Value) (k : Control) → FrameShuns types shuns apart bodies no_ghosts variables f → FrameIsRooted types variables f
-        → NewestSeeks (f ∷ k) → SoughtIsOther o Running (f ∷ k) (operands s) → FrameLooksElsewhere o s f
-    frame_elsewhere (frame.Does fs) k shun root seeks sought = statements_elsewhere fs shun root
-    frame_elsewhere (frame.Evaluates right) k shun root seeks sought = right_elsewhere right shun root
-    frame_elsewhere (frame.Computes e) k shun root seeks sought = expression_elsewhere e shun root
-    frame_elsewhere (frame.Fills items) k shun root seeks sought = items_elsewhere items shun root
-    frame_elsewhere (frame.Copies c t) k shun root seeks sought = sought
-    frame_elsewhere (frame.FreesIn access c) k shun root seeks sought =
+        → NewestSeeks (f ∷ k) → FrameLooksElsewhere o s f
+    frame_elsewhere (frame.Does fs) k shun root seeks = statements_elsewhere fs shun root
+    frame_elsewhere (frame.Evaluates right) k shun root seeks = right_elsewhere right shun root
+    frame_elsewhere (frame.Computes e) k shun root seeks = expression_elsewhere e shun root
+    frame_elsewhere (frame.Fills items) k shun root seeks = items_elsewhere items shun root
+    frame_elsewhere (frame.FreesIn access c) k shun root seeks =
         component_other types variables s sound plain o x found (newest named s) c (λ q y e there. (seeks q y e there).1)
-    frame_elsewhere f k shun root seeks sought = tt
+    frame_elsewhere f k shun root seeks = tt
 
     -- So does each frame, where no jump is on its way.
     next_elsewhere :
         (f : Frame Value) (k : Control) → FrameIsSimple first f → FrameShuns types shuns apart bodies no_ghosts variables f → IsInFront f k
-        → FrameIsRooted types variables f → NewestSeeks (f ∷ k) → SoughtIsOther o Running (f ∷ k) (operands s) → NextLooksElsewhere o s f k
+        → FrameIsRooted types variables f → NewestSeeks (f ∷ k) → SoughtIsOther types o Running (f ∷ k) (operands s) → NextLooksElsewhere o s f k
     next_elsewhere (frame.Follows cs) k simple shun front root seeks sought = leads_elsewhere cs k seeks sought.0
     next_elsewhere f k simple shun front root seeks sought =
-        (calm_awaits k (quiet_behind first f k simple refl front), frame_elsewhere f k shun root seeks sought)
+        (calm_awaits k (quiet_behind first f k simple refl front), frame_elsewhere f k shun root seeks)
 
     -- And in any mode.
     pub first_elsewhere :
         (m : Mode) (f : Frame Value) (k : Control) → FrameIsSimple first f → FrameShuns types shuns apart bodies no_ghosts variables f → IsInFront f k
         → FirstIsRooted types variables m (f ∷ k) → OperandSeeks types shuns apart no_ghosts s.heap m (f ∷ k) (operands s)
-        → SoughtIsOther o m (f ∷ k) (operands s) → FirstLooksElsewhere o s m (f ∷ k)
+        → SoughtIsOther types o m (f ∷ k) (operands s) → FirstLooksElsewhere o s m (f ∷ k)
     first_elsewhere Running f k simple shun front root seeks sought = next_elsewhere f k simple shun front root (seeks_so (f ∷ k) seeks) sought
     first_elsewhere (Raising e) f k simple shun front root seeks sought = calm_awaits k (quiet_behind first f k simple sought front)
     first_elsewhere Exiting f k simple shun front root seeks sought = calm_awaits k (quiet_behind first f k simple sought front)

@@ -21,7 +21,6 @@ use Rattle.ada_meaning.specs.Named.{Object, State, named, object_at, look, whole
 use Rattle.ada_quiet.specs.Simple.{holds_one_value}
 use Rattle.ada_tracked.specs.Looking.{LandsElsewhere, StartsElsewhere, HoldsElsewhere, HolderIsElsewhere, FreedIsElsewhere}
 use Rattle.ada_tracked.specs.Seen.{IsOther}
-use Rattle.ada_tracked.specs.Simple.{IsFrom}
 use Rattle.ada_typed.specs.Holding.{Designates, HasKind, cells_of}
 use Rattle.ada_typed.proofs.Evaluations.{own_access}
 use Rattle.ada_reaching.specs.Forms.{may_follow, selectors_shun}
@@ -32,15 +31,15 @@ use Rattle.ada_reaching.proofs.Selections.{IsRooted, held_in, shun_behind, shun_
 abbrev pub is_around : (around access : ℕ) → Bool
 is_around around t = t == around
 
--- What a path has found is followed further, or copied, or neither: it leads to another object in the first two cases.
-abbrev pub ReadsOther : Id → (copies : Bool) → (selectors : List ℕ) → Value → Type 0
-ReadsOther o copies [] v = copies ≡ true → IsOther o v
-ReadsOther o copies (c ∷ cs) v = IsOther o v
+-- What a path has found leads to another object, if it is followed further.
+abbrev pub ReadsOther : Id → (selectors : List ℕ) → Value → Type 0
+ReadsOther o [] v = Unit {0}
+ReadsOther o (c ∷ cs) v = IsOther o v
 
 -- So it is with what is found where selectors are followed from a value.
-abbrev pub FindsOther : Id → List Object → (copies : Bool) → (selectors : List ℕ) → Value → Type 0
-FindsOther o heap copies [] v = ReadsOther o copies [] v
-FindsOther o heap copies (c ∷ cs) v = (cell : Cell Value) (u : Value) → look heap v ≡ finds cell → slice_get cell.values c ≡ Some u → ReadsOther o copies cs u
+abbrev pub FindsOther : Id → List Object → (selectors : List ℕ) → Value → Type 0
+FindsOther o heap [] v = Unit {0}
+FindsOther o heap (c ∷ cs) v = (cell : Cell Value) (u : Value) → look heap v ≡ finds cell → slice_get cell.values c ≡ Some u → ReadsOther o cs u
 
 -- The object leads to another one in which a value lies that does.
 whole_other : (o : Id) (v : Value) → IsOther o v → IsOther o (whole v)
@@ -161,14 +160,6 @@ module _ (types : List TypeForm) (variables : List VariableForm) (s : State) (so
       let start = begun types variables s.heap (places s) sound r c (d ∷ cs) to root in
       ap (may_follow shuns) (start.lies q y e there) ∙ shun_first types shuns (Some start.kind) d cs (begun_shun r c (d ∷ cs) to start shun)
 
-  -- So it may, if that is all, and what the path leads to may be followed.
-  last_follows :
-      (r c : ℕ) (to : VariableKind) → IsRooted types variables r (c ∷ []) to → may_follow shuns (Some to) ≡ true
-      → MayFollowIn (whole (held named s r)) (inside (held named s r) c)
-  last_follows r c to root may = λ q y e there.
-      let start = begun types variables s.heap (places s) sound r c [] to root in
-      ap (may_follow shuns) (start.lies q y e there ∙ start.leads) ∙ may
-
   -- A path looks elsewhere as it begins.
   pub starts_elsewhere :
       (r : ℕ) (cs : List ℕ) (to : VariableKind) → IsRooted types variables r cs to → selectors_shun types shuns (variable_kind variables r) cs ≡ true
@@ -207,12 +198,12 @@ module _ (types : List TypeForm) (variables : List VariableForm) (s : State) (so
       (subst (λ (k : VariableKind). HasKind types (cells_of s.heap) k (held named s r)) kind (sound.holds r root.from root.held)) may
   freed_elsewhere r (c ∷ cs) own root shun may = holder_elsewhere r (c ∷ cs) (variable.Access own) root shun
 
-  -- What a path finds that reads a value leads to another object, if the path goes on.
+  -- What a path finds leads to another object, if the path goes on.
   pub named_finds :
       (r : ℕ) (cs : List ℕ) (to : VariableKind) → IsRooted types variables r cs to → selectors_shun types shuns (variable_kind variables r) cs ≡ true
-      → FindsOther o s.heap false (selected named (held named s r) cs) (whole (held named s r))
-  named_finds r [] to root shun = λ copies. absurd (cc)
-  named_finds r (c ∷ []) to root shun = λ cell u is holds copies. absurd (cc)
+      → FindsOther o s.heap (selected named (held named s r) cs) (whole (held named s r))
+  named_finds r [] to root shun = tt
+  named_finds r (c ∷ []) to root shun = λ cell u is holds. tt
   named_finds r (c ∷ d ∷ cs) to root shun =
       component_other (whole (held named s r)) (inside (held named s r) c) (first_follows r c d cs to root shun)
 
@@ -220,24 +211,8 @@ module _ (types : List TypeForm) (variables : List VariableForm) (s : State) (so
   pub holder_finds :
       (r c : ℕ) (cs : List ℕ) (to : VariableKind) → IsRooted types variables r (c ∷ cs) to
       → selectors_shun types shuns (variable_kind variables r) (c ∷ cs) ≡ true
-      → FindsOther o s.heap false (before_last (inside (held named s r) c) cs) (whole (held named s r))
-  holder_finds r c [] to root shun = λ copies. absurd (cc)
-  holder_finds r c (d ∷ []) to root shun = λ cell u is holds copies. absurd (cc)
+      → FindsOther o s.heap (before_last (inside (held named s r) c) cs) (whole (held named s r))
+  holder_finds r c [] to root shun = tt
+  holder_finds r c (d ∷ []) to root shun = λ cell u is holds. tt
   holder_finds r c (d ∷ e ∷ cs) to root shun =
       component_other (whole (held named s r)) (inside (held named s r) c) (first_follows r c d (e ∷ cs) to root shun)
-
-  -- And on the way to a record that is copied, which does not lie where the formal parameter stands alone.
-  pub record_finds :
-      (first r : ℕ) (cs : List ℕ) (to : VariableKind) → IsFrom first r cs → IsRooted types variables r cs to
-      → selectors_shun types shuns (variable_kind variables r) cs ≡ true → may_follow shuns (Some to) ≡ true
-      → FindsOther o s.heap true (selected named (held named s r) cs) (whole (held named s r))
-  record_finds first zero [] to simple root shun may =
-      let above : 0 < 0 = simple.0 in
-      absurd (omega (arith, above))
-  record_finds first (suc r) [] to simple root shun may = λ copies.
-      let kind : root.from ≡ to = same_kind root.leads in
-      root_other r root.from root.held (ap (λ (k : VariableKind). may_follow shuns (Some k)) kind ∙ may)
-  record_finds first r (c ∷ []) to simple root shun may = λ cell u is holds copies.
-      component_other (whole (held named s r)) (inside (held named s r) c) (last_follows r c to root may) cell u is holds
-  record_finds first r (c ∷ d ∷ cs) to simple root shun may =
-      component_other (whole (held named s r)) (inside (held named s r) c) (first_follows r c d cs to root shun)

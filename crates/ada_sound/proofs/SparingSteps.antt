@@ -1,5 +1,5 @@
--- What comes next of a body that spares an access type: a frame that follows selectors or copies a record comes in front only with an operand that leads to
--- another object.
+-- What comes next of a body that spares an access type: a frame that follows selectors comes in front only with an operand that leads to another object, and one
+-- that copies a record only where that has no component of an access type.
 
 use Rattle.std.proofs.Common.{◌≡◌, ℕ, Bool, true, false, List, [], ◌∷◌, Option, Some, None, Result, Ok, Err, drop, map, refl, sym, ap, ◌∙◌, subst}
 use Rattle.std.specs.Prelude.{ℤ, int_le, if◌then◌else◌}
@@ -38,8 +38,9 @@ use Rattle.ada_meaning.specs.State.{Activation, Destination, Item, Master, Owned
 use Rattle.ada_meaning.specs.Step.{halts, moves, tells, asks, picks, all_tasks, treating, same_pool, freeing, at, first_or, operands, operands_of, with_operands, places, newest, popped, held, reading, component_next, follow_next, path_next, selected, before_last, last_of, named_next, holder_next, place_in, expression_next, null_test_next, is_decided, link_next, links_next, outcome_next, item_next, items_next, record_in, copied_next, copies_next, answered, new_next, right_next, freeing_next, free_next, end_next, told_back, given_back, back_next, assign_next, target_next, stored_next, store_next, frees_next, freed_next, free_component_next, free_in_next, branches_next, decided_next, turn_next, repeats_next, turned_next, count_turn_next, ranges_next, gets_next, received_next, receive_next, exit_next, exited_next, stmt_next, stmts_next, line_next, declarations_next, taken_out, members_next, item_leave_next, master_leave_next, leave_next, frame_next, undo_next, broken_next, broken_off, landed, pass_next, unwound}
 use Rattle.ada_meaning.specs.Named.{Object, State, Next, named, object_at, whole, inside, look, lent, standing, returned, on_object, reads_integer, reads_boolean, reads_null, unary_given, binary_given, next}
 use Rattle.ada_quiet.specs.Simple.{holds_one_value}
+use Rattle.ada_flow.specs.Flow.{is_owning_record}
 use Rattle.ada_tracked.specs.Seen.{IsOther}
-use Rattle.ada_tracked.specs.Simple.{ItemsAreSimple, DeclarationsAreSimple, StatementIsSimple, StatementsAreSimple, FrameIsSimple}
+use Rattle.ada_tracked.specs.Simple.{DeclarationsAreSimple, StatementIsSimple, StatementsAreSimple, FrameIsSimple}
 use Rattle.ada_reaching.specs.Apart.{Apart}
 use Rattle.ada_reaching.specs.Forms.{may_follow, selectors_shun, path_shuns, expression_shuns, item_shuns, right_shuns, statement_shuns, statements_shun}
 use Rattle.ada_reaching.specs.Law.{AllGoOn}
@@ -49,16 +50,16 @@ use Rattle.ada_reaching.proofs.Paths.{IsSound}
 use Rattle.ada_reaching.proofs.Rooted.{ExpressionIsRooted, ItemsAreRooted, RightIsRooted, StatementIsRooted, StatementsAreRooted, FrameIsRooted}
 use Rattle.ada_reaching.proofs.Selections.{IsRooted}
 use Rattle.ada_sound.proofs.Invariant.{Control}
-use Rattle.ada_sound.proofs.SparingPaths.{is_around, ReadsOther, FindsOther, component_other, named_finds, holder_finds, record_finds}
-use Rattle.ada_sound.proofs.SparingLooks.{no_ghosts, begins_following, begins_copying, SoughtIsOther, copied_may, quiet_behind, NewestSeeks, seeks_so, next_follows, sought_follows}
+use Rattle.ada_sound.proofs.SparingPaths.{is_around, ReadsOther, FindsOther, component_other, named_finds, holder_finds}
+use Rattle.ada_sound.proofs.SparingLooks.{no_ghosts, begins_following, CopiesBare, SoughtIsOther, ItemIsBare, NextIsBare, quiet_behind, NewestSeeks, seeks_so, next_follows}
 
 -- What is left to do begins with no frame that looks for an object.
 abbrev pub Calm : State → Type 0
 Calm s = seeks_nothing s.control ≡ true
 
--- What is sought in a state leads to another object.
-abbrev pub Sought : Id → State → Type 0
-Sought o s = SoughtIsOther o s.mode s.control (operands s)
+-- What is sought in a state leads to another object, and what is copied has no component of an access type.
+abbrev pub Sought : List TypeForm → Id → State → Type 0
+Sought types o s = SoughtIsOther types o s.mode s.control (operands s)
 
 -- Where it begins so, it begins neither with selectors that are followed
 calm_follows : (k : Control) → seeks_nothing k ≡ true → begins_following k ≡ false
@@ -67,32 +68,32 @@ calm_follows (frame.Follows cs ∷ k) calm = absurd (cc)
 calm_follows (f ∷ k) calm = refl
 
 -- nor with a record that is copied.
-calm_copies : (k : Control) → seeks_nothing k ≡ true → begins_copying k ≡ false
-calm_copies [] calm = refl
-calm_copies (frame.Copies c t ∷ k) calm = absurd (cc)
-calm_copies (f ∷ k) calm = refl
+calm_copies : (types : List TypeForm) (k : Control) → seeks_nothing k ≡ true → CopiesBare types k
+calm_copies types [] calm = tt
+calm_copies types (frame.Copies c t ∷ k) calm = absurd (cc)
+calm_copies types (f ∷ k) calm = tt
 
 -- So nothing is sought.
-pub calm_sought : (o : Id) (m : Mode) (k : Control) (vs : List Value) → seeks_nothing k ≡ true → SoughtIsOther o m k vs
-calm_sought o Running [] vs calm = tt
-calm_sought o Running (frame.Follows cs ∷ k) vs calm = absurd (cc)
-calm_sought o Running (frame.Copies c t ∷ k) vs calm = absurd (cc)
-calm_sought o Running (f ∷ k) vs calm = tt
-calm_sought o (Raising e) k vs calm = calm_follows k calm
-calm_sought o Exiting k vs calm = calm_follows k calm
-calm_sought o Returning k vs calm = calm_follows k calm
+pub calm_sought : (types : List TypeForm) (o : Id) (m : Mode) (k : Control) (vs : List Value) → seeks_nothing k ≡ true → SoughtIsOther types o m k vs
+calm_sought types o Running [] vs calm = tt
+calm_sought types o Running (frame.Follows cs ∷ k) vs calm = absurd (cc)
+calm_sought types o Running (frame.Copies c t ∷ k) vs calm = absurd (cc)
+calm_sought types o Running (f ∷ k) vs calm = tt
+calm_sought types o (Raising e) k vs calm = calm_follows k calm
+calm_sought types o Exiting k vs calm = calm_follows k calm
+calm_sought types o Returning k vs calm = calm_follows k calm
 
 -- So it is with whatever comes next.
-quietly : (o : Id) (n : Next) → AllGoOn Calm n → AllGoOn (Sought o) n
-quietly o (halts h) calm = tt
-quietly o (moves e s) calm = calm_sought o s.mode s.control (operands s) calm
-quietly o (tells request e s) calm = calm_sought o s.mode s.control (operands s) calm
-quietly o (asks request answers) calm = λ granted.
+quietly : (types : List TypeForm) (o : Id) (n : Next) → AllGoOn Calm n → AllGoOn (Sought types o) n
+quietly types o (halts h) calm = tt
+quietly types o (moves e s) calm = calm_sought types o s.mode s.control (operands s) calm
+quietly types o (tells request e s) calm = calm_sought types o s.mode s.control (operands s) calm
+quietly types o (asks request answers) calm = λ granted.
     let s = answers granted in
-    calm_sought o s.mode s.control (operands s) (calm granted)
-quietly o (picks count taking) calm = λ i below.
+    calm_sought types o s.mode s.control (operands s) (calm granted)
+quietly types o (picks count taking) calm = λ i below.
     let s = taking i in
-    calm_sought o s.mode s.control (operands s) (calm i below)
+    calm_sought types o s.mode s.control (operands s) (calm i below)
 
 -- A new object is initialized first, if it has controlled parts (7.6),
 treating_calm :
@@ -448,61 +449,60 @@ module _ (tds : List TypeDefinition) (bodies : List BodyForm) where
 
 -- A value becomes the newest operand.
 value_sought :
-    (o : Id) (copies : Bool) (m : Mode) (k : Control) (u : Value) (vs : List Value) (acts : List (Activation Value)) → begins_following k ≡ false
-    → begins_copying k ≡ copies → (copies ≡ true → IsOther o u) → SoughtIsOther o m k (operands_of (with_operands (u ∷ vs) acts))
-value_sought o copies Running [] u vs acts first same other = tt
-value_sought o copies Running (frame.Follows cs ∷ k) u vs acts first same other = absurd (cc)
-value_sought o copies Running (frame.Copies c t ∷ k) u vs [] first same other = refl
-value_sought o copies Running (frame.Copies c t ∷ k) u vs (a ∷ acts) first same other = other (sym same)
-value_sought o copies Running (f ∷ k) u vs acts first same other = tt
-value_sought o copies (Raising e) k u vs acts first same other = first
-value_sought o copies Exiting k u vs acts first same other = first
-value_sought o copies Returning k u vs acts first same other = first
+    (types : List TypeForm) (o : Id) (m : Mode) (k : Control) (u : Value) (vs : List Value) (acts : List (Activation Value)) → begins_following k ≡ false
+    → CopiesBare types k → SoughtIsOther types o m k (operands_of (with_operands (u ∷ vs) acts))
+value_sought types o Running [] u vs acts first bare = tt
+value_sought types o Running (frame.Follows cs ∷ k) u vs acts first bare = absurd (cc)
+value_sought types o Running (f ∷ k) u vs acts first bare = bare
+value_sought types o (Raising e) k u vs acts first bare = first
+value_sought types o Exiting k u vs acts first bare = first
+value_sought types o Returning k u vs acts first bare = first
 
 -- Behind it selectors are followed.
 followed_sought :
-    (o : Id) (m : Mode) (cs : List ℕ) (k : Control) (u : Value) (vs : List Value) (acts : List (Activation Value)) → m ≡ Running
-    → begins_following k ≡ false → IsOther o u → SoughtIsOther o m (frame.Follows cs ∷ k) (operands_of (with_operands (u ∷ vs) acts))
-followed_sought o m cs k u vs acts runs first other =
-    subst (λ (mode : Mode). SoughtIsOther o mode (frame.Follows cs ∷ k) (operands_of (with_operands (u ∷ vs) acts))) (sym runs) (by acts, first)
+    (types : List TypeForm) (o : Id) (m : Mode) (cs : List ℕ) (k : Control) (u : Value) (vs : List Value) (acts : List (Activation Value)) → m ≡ Running
+    → begins_following k ≡ false → CopiesBare types k → IsOther o u
+    → SoughtIsOther types o m (frame.Follows cs ∷ k) (operands_of (with_operands (u ∷ vs) acts))
+followed_sought types o m cs k u vs acts runs first bare other =
+    subst (λ (mode : Mode). SoughtIsOther types o mode (frame.Follows cs ∷ k) (operands_of (with_operands (u ∷ vs) acts))) (sym runs) (by acts, first, bare)
   where
     by : (all : List (Activation Value)) → IsOther o (first_or Null (operands_of (with_operands (u ∷ vs) all)))
     by [] = refl
     by (a ∷ all) = other
 
-module _ (o : Id) (copies : Bool) where
+module _ (types : List TypeForm) (o : Id) where
   -- A path has found a value.
   reading_sought :
-      (cs : List ℕ) (u : Value) (s : State) → s.mode ≡ Running → begins_following s.control ≡ false → begins_copying s.control ≡ copies
-      → ReadsOther o copies cs u → Sought o (reading named cs u s)
-  reading_sought [] u s runs first same each = value_sought o copies s.mode s.control u (operands s) s.activations first same each
-  reading_sought (c ∷ cs) u s runs first same each = followed_sought o s.mode (c ∷ cs) s.control u (operands s) s.activations runs first each
+      (cs : List ℕ) (u : Value) (s : State) → s.mode ≡ Running → begins_following s.control ≡ false → CopiesBare types s.control
+      → ReadsOther o cs u → Sought types o (reading named cs u s)
+  reading_sought [] u s runs first bare each = value_sought types o s.mode s.control u (operands s) s.activations first bare
+  reading_sought (c ∷ cs) u s runs first bare each = followed_sought types o s.mode (c ∷ cs) s.control u (operands s) s.activations runs first bare each
 
   -- It reads a component.
   component_sought :
-      (v : Value) (cs : List ℕ) (held : Option Value) (s : State) → s.mode ≡ Running → begins_following s.control ≡ false → begins_copying s.control ≡ copies
-      → ((u : Value) → held ≡ Some u → ReadsOther o copies cs u) → AllGoOn (Sought o) (component_next named v cs held s)
-  component_sought v cs None s runs first same each = tt
-  component_sought v cs (Some u) s runs first same each = reading_sought cs u s runs first same (each u refl)
+      (v : Value) (cs : List ℕ) (held : Option Value) (s : State) → s.mode ≡ Running → begins_following s.control ≡ false → CopiesBare types s.control
+      → ((u : Value) → held ≡ Some u → ReadsOther o cs u) → AllGoOn (Sought types o) (component_next named v cs held s)
+  component_sought v cs None s runs first bare each = tt
+  component_sought v cs (Some u) s runs first bare each = reading_sought cs u s runs first bare (each u refl)
 
   -- It follows a value, and raises an exception, if that is null.
   follow_sought :
       (v : Value) (c : ℕ) (cs : List ℕ) (found : Found (Cell Value)) (s : State) → s.mode ≡ Running → begins_following s.control ≡ false
-      → begins_copying s.control ≡ copies
-      → ((cell : Cell Value) (u : Value) → found ≡ finds cell → slice_get cell.values c ≡ Some u → ReadsOther o copies cs u)
-      → AllGoOn (Sought o) (follow_next named v c cs found s)
-  follow_sought v c cs on_null s runs first same each = first
-  follow_sought v c cs on_gone s runs first same each = tt
-  follow_sought v c cs on_other s runs first same each = tt
-  follow_sought v c cs (finds cell) s runs first same each =
-      component_sought v cs (slice_get cell.values c) s runs first same (λ u is. each cell u refl is)
+      → CopiesBare types s.control
+      → ((cell : Cell Value) (u : Value) → found ≡ finds cell → slice_get cell.values c ≡ Some u → ReadsOther o cs u)
+      → AllGoOn (Sought types o) (follow_next named v c cs found s)
+  follow_sought v c cs on_null s runs first bare each = first
+  follow_sought v c cs on_gone s runs first bare each = tt
+  follow_sought v c cs on_other s runs first bare each = tt
+  follow_sought v c cs (finds cell) s runs first bare each =
+      component_sought v cs (slice_get cell.values c) s runs first bare (λ u is. each cell u refl is)
 
   -- It leads on from a value.
   path_sought :
-      (cs : List ℕ) (v : Value) (s : State) → s.mode ≡ Running → begins_following s.control ≡ false → begins_copying s.control ≡ copies
-      → FindsOther o s.heap copies cs v → AllGoOn (Sought o) (path_next named cs v s)
-  path_sought [] v s runs first same finds_other = value_sought o copies s.mode s.control v (operands s) s.activations first same finds_other
-  path_sought (c ∷ cs) v s runs first same finds_other = follow_sought v c cs (look s.heap v) s runs first same finds_other
+      (cs : List ℕ) (v : Value) (s : State) → s.mode ≡ Running → begins_following s.control ≡ false → CopiesBare types s.control
+      → FindsOther o s.heap cs v → AllGoOn (Sought types o) (path_next named cs v s)
+  path_sought [] v s runs first bare finds_other = value_sought types o s.mode s.control v (operands s) s.activations first bare
+  path_sought (c ∷ cs) v s runs first bare finds_other = follow_sought v c cs (look s.heap v) s runs first bare finds_other
 
 module _ (types : List TypeForm) (variables : List VariableForm) (s : State) (sound : IsSound types variables s.heap (places s))
     (plain : list_all (λ y. holds_one_value y.kind) (drop 1 variables) ≡ true) (o : Id) (x : Object) (found : object_at s.heap o ≡ Some x)
@@ -514,105 +514,106 @@ module _ (types : List TypeForm) (variables : List VariableForm) (s : State) (so
   -- A path is read.
   named_sought :
       (r : ℕ) (cs : List ℕ) (to : VariableKind) (k : Control) → seeks_nothing k ≡ true → IsRooted types variables r cs to
-      → selectors_shun types shuns (variable_kind variables r) cs ≡ true → AllGoOn (Sought o) (named_next named cs r (at k s))
+      → selectors_shun types shuns (variable_kind variables r) cs ≡ true → AllGoOn (Sought types o) (named_next named cs r (at k s))
   named_sought r cs to k calm root shun =
-      path_sought o false (selected named (held named s r) cs) (whole (held named s r)) (at k s) runs (calm_follows k calm) (calm_copies k calm)
+      path_sought types o (selected named (held named s r) cs) (whole (held named s r)) (at k s) runs (calm_follows k calm) (calm_copies types k calm)
       (named_finds types variables s sound plain o x found r cs to root shun)
 
   -- The object of its last component is found.
   holder_sought :
       (r c : ℕ) (cs : List ℕ) (to : VariableKind) (frame_of : ℕ → Frame Value) (k : Control) → ((n : ℕ) → begins_following (frame_of n ∷ k) ≡ false)
-      → ((n : ℕ) → begins_copying (frame_of n ∷ k) ≡ false) → IsRooted types variables r (c ∷ cs) to
-      → selectors_shun types shuns (variable_kind variables r) (c ∷ cs) ≡ true → AllGoOn (Sought o) (holder_next named c cs r frame_of (at k s))
+      → ((n : ℕ) → CopiesBare types (frame_of n ∷ k)) → IsRooted types variables r (c ∷ cs) to
+      → selectors_shun types shuns (variable_kind variables r) (c ∷ cs) ≡ true → AllGoOn (Sought types o) (holder_next named c cs r frame_of (at k s))
   holder_sought r c cs to frame_of k follows copies root shun =
       let v = held named s r in
       let last = last_of (inside v c) cs in
-      path_sought o false (before_last (inside v c) cs) (whole v) (at (frame_of last ∷ k) s) runs (follows last) (copies last)
+      path_sought types o (before_last (inside v c) cs) (whole v) (at (frame_of last ∷ k) s) runs (follows last) (copies last)
       (holder_finds types variables s sound plain o x found r c cs to root shun)
 
-  -- A record is found that is copied.
+  -- A record is found that is copied, which has no component of an access type.
   record_sought :
-      (first : ℕ) (q : RecordPathForm) (to : VariableKind) (items : List ItemForm) (k : Control) → ItemsAreSimple first (item_of_record q ∷ items)
+      (q : RecordPathForm) (to : VariableKind) (items : List ItemForm) (k : Control) → is_owning_record types q.record_type ≡ false
       → IsRooted types variables q.object.root q.object.selectors to
-      → selectors_shun types shuns (variable_kind variables q.object.root) q.object.selectors ≡ true → may_follow shuns (Some to) ≡ true
-      → AllGoOn (Sought o) (item_next named (item_of_record q) (at (frame.Fills items ∷ k) s))
-  record_sought first q to items k simple root shun may =
+      → selectors_shun types shuns (variable_kind variables q.object.root) q.object.selectors ≡ true
+      → AllGoOn (Sought types o) (item_next named (item_of_record q) (at (frame.Fills items ∷ k) s))
+  record_sought q to items k bare root shun =
       let v = held named s q.object.root in
-      path_sought o true (selected named v q.object.selectors) (whole v)
-      (at (frame.Copies (place_in named v q.object.selectors q).component q.record_type ∷ frame.Fills items ∷ k) s) runs refl refl
-      (record_finds types variables s sound plain o x found first q.object.root q.object.selectors to simple.0 root shun may)
+      path_sought types o (selected named v q.object.selectors) (whole v)
+      (at (frame.Copies (place_in named v q.object.selectors q).component q.record_type ∷ frame.Fills items ∷ k) s) runs refl bare
+      (named_finds types variables s sound plain o x found q.object.root q.object.selectors to root shun)
 
   -- An expression is evaluated.
   expression_sought :
       (e : ExpressionForm) → seeks_nothing s.control ≡ true → expression_shuns types shuns apart variables e ≡ true → ExpressionIsRooted types variables e
-      → AllGoOn (Sought o) (expression_next named e s)
-  expression_sought (integer i) calm shun root = quietly o (expression_next named (integer i) s) calm
-  expression_sought (boolean b) calm shun root = quietly o (expression_next named (boolean b) s) calm
+      → AllGoOn (Sought types o) (expression_next named e s)
+  expression_sought (integer i) calm shun root = quietly types o (expression_next named (integer i) s) calm
+  expression_sought (boolean b) calm shun root = quietly types o (expression_next named (boolean b) s) calm
   expression_sought (reads path) calm shun root = named_sought path.root path.selectors root.0 s.control calm root.1 shun
   expression_sought (is_null equal path) calm shun root =
       named_sought path.root path.selectors root.0 (frame.TestsNull equal ∷ s.control) refl root.1 shun
-  expression_sought (applied_to operator e) calm shun root = quietly o (expression_next named (applied_to operator e) s) refl
-  expression_sought (chained e links) calm shun root = quietly o (expression_next named (chained e links) s) refl
+  expression_sought (applied_to operator e) calm shun root = quietly types o (expression_next named (applied_to operator e) s) refl
+  expression_sought (chained e links) calm shun root = quietly types o (expression_next named (chained e links) s) refl
 
   -- The first of some items is.
   items_sought :
-      (first : ℕ) (items : List ItemForm) → ItemsAreSimple first items → seeks_nothing s.control ≡ true
-      → list_all (item_shuns types shuns apart variables) items ≡ true → ItemsAreRooted types variables items → AllGoOn (Sought o) (items_next named items s)
-  items_sought first [] simple calm shun root = quietly o (items_next named [] s) calm
-  items_sought first (null_item ∷ is) simple calm shun root = quietly o (items_next named (null_item ∷ is) s) refl
-  items_sought first (item_of_path path ∷ is) simple calm shun root =
+      (items : List ItemForm) → ItemIsBare types items → seeks_nothing s.control ≡ true
+      → list_all (item_shuns types shuns apart variables) items ≡ true → ItemsAreRooted types variables items
+      → AllGoOn (Sought types o) (items_next named items s)
+  items_sought [] bare calm shun root = quietly types o (items_next named [] s) calm
+  items_sought (null_item ∷ is) bare calm shun root = quietly types o (items_next named (null_item ∷ is) s) refl
+  items_sought (item_of_path path ∷ is) bare calm shun root =
       let two = and_parts (item_shuns types shuns apart variables (item_of_path path)) (list_all (item_shuns types shuns apart variables) is) shun in
       named_sought path.root path.selectors root.0 (frame.Fills is ∷ s.control) refl root.1 two.0
-  items_sought first (item_of_value e ∷ is) simple calm shun root = quietly o (items_next named (item_of_value e ∷ is) s) refl
-  items_sought first (item_of_record q ∷ is) simple calm shun root =
+  items_sought (item_of_value e ∷ is) bare calm shun root = quietly types o (items_next named (item_of_value e ∷ is) s) refl
+  items_sought (item_of_record q ∷ is) bare calm shun root =
       let two = and_parts (item_shuns types shuns apart variables (item_of_record q)) (list_all (item_shuns types shuns apart variables) is) shun in
       let own = and_parts (path_shuns types shuns apart variables q.object) (may_follow shuns (path_kind types variables q.object)) two.0 in
-      record_sought first q root.0 is s.control simple root.1 own.0 (ap (may_follow shuns) (sym root.2) ∙ own.1)
+      record_sought q root.0 is s.control bare root.1 own.0
 
   -- What is assigned is evaluated.
   right_sought :
       (tds : List TypeDefinition) (right : RightForm) → seeks_nothing s.control ≡ true → right_shuns types shuns apart variables right ≡ true
-      → RightIsRooted types variables right → AllGoOn (Sought o) (right_next named tds right s)
-  right_sought tds nothing calm shun root = quietly o (right_next named tds nothing s) calm
+      → RightIsRooted types variables right → AllGoOn (Sought types o) (right_next named tds right s)
+  right_sought tds nothing calm shun root = quietly types o (right_next named tds nothing s) calm
   right_sought tds (value_of path) calm shun root = named_sought path.root path.selectors root.0 s.control calm root.1 shun
-  right_sought tds (allocates access items) calm shun root = quietly o (right_next named tds (allocates access items) s) refl
-  right_sought tds (allocates_default access) calm shun root = quietly o (right_next named tds (allocates_default access) s) refl
-  right_sought tds (computes e) calm shun root = quietly o (right_next named tds (computes e) s) refl
+  right_sought tds (allocates access items) calm shun root = quietly types o (right_next named tds (allocates access items) s) refl
+  right_sought tds (allocates_default access) calm shun root = quietly types o (right_next named tds (allocates_default access) s) refl
+  right_sought tds (computes e) calm shun root = quietly types o (right_next named tds (computes e) s) refl
 
   -- The target of an assignment is found, if it is a component.
   assign_sought :
       (r : ℕ) (cs : List ℕ) (to : VariableKind) (right : RightForm) (k : Control) → IsRooted types variables r cs to
-      → selectors_shun types shuns (variable_kind variables r) cs ≡ true → AllGoOn (Sought o) (assign_next named cs r right (at k s))
-  assign_sought r [] to right k root shun = quietly o (assign_next named [] r right (at k s)) refl
+      → selectors_shun types shuns (variable_kind variables r) cs ≡ true → AllGoOn (Sought types o) (assign_next named cs r right (at k s))
+  assign_sought r [] to right k root shun = quietly types o (assign_next named [] r right (at k s)) refl
   assign_sought r (c ∷ cs) to right k root shun =
-      holder_sought r c cs to (λ last. frame.Targets last right) k (λ n. refl) (λ n. refl) root shun
+      holder_sought r c cs to (λ last. frame.Targets last right) k (λ n. refl) (λ n. tt) root shun
 
   -- So is what is freed,
   frees_sought :
       (tds : List TypeDefinition) (access r : ℕ) (cs : List ℕ) (to : VariableKind) (k : Control) → seeks_nothing k ≡ true
       → IsRooted types variables r cs to → selectors_shun types shuns (variable_kind variables r) cs ≡ true
-      → AllGoOn (Sought o) (frees_next named tds cs access r (at k s))
+      → AllGoOn (Sought types o) (frees_next named tds cs access r (at k s))
   frees_sought tds access r [] to k calm root shun =
-      quietly o (frees_next named tds [] access r (at k s))
+      quietly types o (frees_next named tds [] access r (at k s))
       (free_calm tds [] access r (held named s r) (standing s.heap (held named s r)) (at k s) calm)
   frees_sought tds access r (c ∷ cs) to k calm root shun =
-      holder_sought r c cs to (λ last. frame.FreesIn access last) k (λ n. refl) (λ n. refl) root shun
+      holder_sought r c cs to (λ last. frame.FreesIn access last) k (λ n. refl) (λ n. tt) root shun
 
   -- and what is read to.
   gets_sought :
       (r : ℕ) (cs : List ℕ) (to : VariableKind) (input : List ℤ) (k : Control) → seeks_nothing k ≡ true → IsRooted types variables r cs to
-      → selectors_shun types shuns (variable_kind variables r) cs ≡ true → AllGoOn (Sought o) (gets_next named cs r input (at k s))
+      → selectors_shun types shuns (variable_kind variables r) cs ≡ true → AllGoOn (Sought types o) (gets_next named cs r input (at k s))
   gets_sought r (c ∷ cs) to input k calm root shun =
-      holder_sought r c cs to (λ last. frame.Receives last) k (λ n. refl) (λ n. refl) root shun
-  gets_sought r [] to [] k calm root shun = quietly o (gets_next named [] r [] (at k s)) calm
-  gets_sought r [] to (i ∷ is) k calm root shun = quietly o (gets_next named [] r (i ∷ is) (at k s)) calm
+      holder_sought r c cs to (λ last. frame.Receives last) k (λ n. refl) (λ n. tt) root shun
+  gets_sought r [] to [] k calm root shun = quietly types o (gets_next named [] r [] (at k s)) calm
+  gets_sought r [] to (i ∷ is) k calm root shun = quietly types o (gets_next named [] r (i ∷ is) (at k s)) calm
 
   module _ (tds : List TypeDefinition) (bodies : List BodyForm) (first : ℕ) where
     -- A statement begins.
     statement_sought :
         (f : StmtForm) (k : Control) → StatementIsSimple first f → seeks_nothing k ≡ true → statement_shuns types shuns apart variables f ≡ true
-        → StatementIsRooted types variables f → AllGoOn (Sought o) (stmt_next named tds bodies f (at k s))
-    statement_sought skips k simple calm shun root = quietly o (stmt_next named tds bodies skips (at k s)) calm
+        → StatementIsRooted types variables f → AllGoOn (Sought types o) (stmt_next named tds bodies f (at k s))
+    statement_sought skips k simple calm shun root = quietly types o (stmt_next named tds bodies skips (at k s)) calm
     statement_sought (assigns target right) k simple calm shun root =
         let one = and_parts (path_shuns types shuns apart variables target) (right_shuns types shuns apart variables right) shun in
         assign_sought target.root target.selectors root.0 right k root.1 one.0
@@ -622,40 +623,37 @@ module _ (types : List TypeForm) (variables : List VariableForm) (s : State) (so
         let own = and_parts (path_shuns types shuns apart variables path) (may_follow shuns (path_kind types variables path)) one.0 in
         frees_sought tds access path.root path.selectors (variable.Access root.0) k calm root.1 own.0
     statement_sought (gets target) k simple calm shun root = gets_sought target.root target.selectors root.0 s.input k calm root.1 shun
-    statement_sought (writes e) k simple calm shun root = quietly o (stmt_next named tds bodies (writes e) (at k s)) refl
-    statement_sought (writes_text text) k simple calm shun root = quietly o (stmt_next named tds bodies (writes_text text) (at k s)) calm
+    statement_sought (writes e) k simple calm shun root = quietly types o (stmt_next named tds bodies (writes e) (at k s)) refl
+    statement_sought (writes_text text) k simple calm shun root = quietly types o (stmt_next named tds bodies (writes_text text) (at k s)) calm
     statement_sought (chooses branches) k simple calm shun root =
-        quietly o (stmt_next named tds bodies (chooses branches) (at k s)) (branches_calm tds bodies branches (at k s))
+        quietly types o (stmt_next named tds bodies (chooses branches) (at k s)) (branches_calm tds bodies branches (at k s))
     statement_sought (repeats condition fs spot) k simple calm shun root =
-        quietly o (stmt_next named tds bodies (repeats condition fs spot) (at k s)) refl
+        quietly types o (stmt_next named tds bodies (repeats condition fs spot) (at k s)) refl
     statement_sought (counts n low high fs spot) k simple calm shun root =
-        quietly o (stmt_next named tds bodies (counts n low high fs spot) (at k s)) refl
+        quietly types o (stmt_next named tds bodies (counts n low high fs spot) (at k s)) refl
     statement_sought (exits condition spot) k simple calm shun root =
-        quietly o (stmt_next named tds bodies (exits condition spot) (at k s)) (exit_calm tds bodies condition (at k s) calm)
+        quietly types o (stmt_next named tds bodies (exits condition spot) (at k s)) (exit_calm tds bodies condition (at k s) calm)
     statement_sought (calls procedure actuals) k simple calm shun root = absurd simple
-    statement_sought (returns spot) k simple calm shun root = quietly o (stmt_next named tds bodies (returns spot) (at k s)) calm
-    statement_sought (raises e) k simple calm shun root = quietly o (stmt_next named tds bodies (raises e) (at k s)) calm
-    statement_sought (encloses ds fs hs) k simple calm shun root = quietly o (stmt_next named tds bodies (encloses ds fs hs) (at k s)) refl
+    statement_sought (returns spot) k simple calm shun root = quietly types o (stmt_next named tds bodies (returns spot) (at k s)) calm
+    statement_sought (raises e) k simple calm shun root = quietly types o (stmt_next named tds bodies (raises e) (at k s)) calm
+    statement_sought (encloses ds fs hs) k simple calm shun root = quietly types o (stmt_next named tds bodies (encloses ds fs hs) (at k s)) refl
 
     -- The first of some statements does.
     statements_sought :
         (fs : StmtsForm) → StatementsAreSimple first fs → seeks_nothing s.control ≡ true → statements_shun types shuns apart variables fs ≡ true
-        → StatementsAreRooted types variables fs → AllGoOn (Sought o) (stmts_next named tds bodies fs s)
-    statements_sought no_stmts simple calm shun root = quietly o (stmts_next named tds bodies no_stmts s) calm
+        → StatementsAreRooted types variables fs → AllGoOn (Sought types o) (stmts_next named tds bodies fs s)
+    statements_sought no_stmts simple calm shun root = quietly types o (stmts_next named tds bodies no_stmts s) calm
     statements_sought (a_stmt f fs) simple calm shun root =
         let two = and_parts (statement_shuns types shuns apart variables f) (statements_shun types shuns apart variables fs) shun in
         statement_sought f (frame.Does fs ∷ s.control) simple.0 refl two.0 root
 
     -- What is found behind the newest operand.
     behind_finds :
-        (cs : List ℕ) → NewestSeeks types variables s sound plain o x found apart (frame.Follows cs ∷ s.control) → IsOther o (newest named s)
-        → FindsOther o s.heap (begins_copying s.control) cs (newest named s)
-    behind_finds [] seeks other = λ copies. other
-    behind_finds (c ∷ []) seeks other = λ cell u is holds copies.
-        let may = sought_follows types variables s sound plain o x found apart c s.control
-        (λ may t more. copied_may types shuns apart may t s.control copies more) seeks in
-        component_other types variables s sound plain o x found (newest named s) c may cell u is holds
-    behind_finds (c ∷ d ∷ cs) seeks other =
+        (cs : List ℕ) → NewestSeeks types variables s sound plain o x found apart (frame.Follows cs ∷ s.control)
+        → FindsOther o s.heap cs (newest named s)
+    behind_finds [] seeks = tt
+    behind_finds (c ∷ []) seeks = λ cell u is holds. tt
+    behind_finds (c ∷ d ∷ cs) seeks =
         component_other types variables s sound plain o x found (newest named s) c
         (next_follows types variables s sound plain o x found apart c d cs s.control seeks)
 
@@ -663,19 +661,20 @@ module _ (types : List TypeForm) (variables : List VariableForm) (s : State) (so
     frame_sought :
         (f : Frame Value) → FrameIsSimple first f → FrameShuns types shuns apart bodies no_ghosts variables f → IsInFront f s.control
         → FrameIsRooted types variables f → NewestSeeks types variables s sound plain o x found apart (f ∷ s.control)
-        → SoughtIsOther o Running (f ∷ s.control) (operands s) → AllGoOn (Sought o) (frame_next named tds bodies f s)
-    frame_sought (frame.Does fs) simple shun front root seeks sought =
+        → SoughtIsOther types o Running (f ∷ s.control) (operands s) → NextIsBare types Running (f ∷ s.control)
+        → AllGoOn (Sought types o) (frame_next named tds bodies f s)
+    frame_sought (frame.Does fs) simple shun front root seeks sought bare =
         statements_sought fs simple (quiet_behind first (frame.Does fs) s.control simple refl front) shun root
-    frame_sought (frame.Evaluates right) simple shun front root seeks sought =
+    frame_sought (frame.Evaluates right) simple shun front root seeks sought bare =
         right_sought tds right (quiet_behind first (frame.Evaluates right) s.control simple refl front) shun root
-    frame_sought (frame.Computes e) simple shun front root seeks sought =
+    frame_sought (frame.Computes e) simple shun front root seeks sought bare =
         expression_sought e (quiet_behind first (frame.Computes e) s.control simple refl front) shun root
-    frame_sought (frame.Follows cs) simple shun front root seeks sought =
-        path_sought o (begins_copying s.control) cs (newest named s) (popped s) runs sought.1 refl (behind_finds cs seeks sought.0)
-    frame_sought (frame.Fills items) simple shun front root seeks sought =
-        items_sought first items simple (quiet_behind first (frame.Fills items) s.control simple refl front) shun root
-    frame_sought f simple shun front root seeks sought =
-        quietly o (frame_next named tds bodies f s) (frame_calm tds bodies first f s simple refl (quiet_behind first f s.control simple refl front))
+    frame_sought (frame.Follows cs) simple shun front root seeks sought bare =
+        path_sought types o cs (newest named s) (popped s) runs sought.1 sought.2 (behind_finds cs seeks)
+    frame_sought (frame.Fills items) simple shun front root seeks sought bare =
+        items_sought items bare (quiet_behind first (frame.Fills items) s.control simple refl front) shun root
+    frame_sought f simple shun front root seeks sought bare =
+        quietly types o (frame_next named tds bodies f s) (frame_calm tds bodies first f s simple refl (quiet_behind first f s.control simple refl front))
 
 -- A step in any mode leaves it so.
 module _ (types : List TypeForm) (variables : List VariableForm) (s : State) (sound : IsSound types variables s.heap (places s))
@@ -684,22 +683,23 @@ module _ (types : List TypeForm) (variables : List VariableForm) (s : State) (so
   -- A jump comes to a frame.
   jump_sought :
       (m : Mode) (f : Frame Value) (k : Control) → FrameIsSimple first f → IsInFront f k → begins_following (f ∷ k) ≡ false
-      → AllGoOn (Sought o) (pass_next named (is_master f) (landing m f) m (unwound named m f (record s { mode = m; control = k })))
+      → AllGoOn (Sought types o) (pass_next named (is_master f) (landing m f) m (unwound named m f (record s { mode = m; control = k })))
   jump_sought m f k simple front other =
-      quietly o (pass_next named (is_master f) (landing m f) m (unwound named m f (record s { mode = m; control = k })))
+      quietly types o (pass_next named (is_master f) (landing m f) m (unwound named m f (record s { mode = m; control = k })))
       (jump_calm tds bodies first m f (record s { mode = m; control = k }) simple (quiet_behind first f k simple other front))
 
   -- Any step is such.
   pub step_sought :
       (m : Mode) (f : Frame Value) (k : Control) → FrameIsSimple first f → FrameShuns types (is_around x.cell.access) apart bodies no_ghosts variables f
       → IsInFront f k → FirstIsRooted types variables m (f ∷ k)
-      → OperandSeeks types (is_around x.cell.access) apart no_ghosts s.heap m (f ∷ k) (operands s) → SoughtIsOther o m (f ∷ k) (operands s)
-      → AllGoOn (Sought o) (next tds bodies (record s { mode = m; control = f ∷ k }))
+      → OperandSeeks types (is_around x.cell.access) apart no_ghosts s.heap m (f ∷ k) (operands s) → SoughtIsOther types o m (f ∷ k) (operands s)
+      → NextIsBare types m (f ∷ k)
+      → AllGoOn (Sought types o) (next tds bodies (record s { mode = m; control = f ∷ k }))
   unfolding next
-  step_sought Running f k simple shun front root seeks sought =
+  step_sought Running f k simple shun front root seeks sought bare =
       let t : State = record s { mode = Running; control = k } in
       frame_sought types variables t sound plain o x found apart refl tds bodies first f simple shun front root
-      (seeks_so types variables t sound plain o x found apart (f ∷ k) seeks) sought
-  step_sought (Raising e) f k simple shun front root seeks sought = jump_sought (Raising e) f k simple front sought
-  step_sought Exiting f k simple shun front root seeks sought = jump_sought Exiting f k simple front sought
-  step_sought Returning f k simple shun front root seeks sought = jump_sought Returning f k simple front sought
+      (seeks_so types variables t sound plain o x found apart (f ∷ k) seeks) sought bare
+  step_sought (Raising e) f k simple shun front root seeks sought bare = jump_sought (Raising e) f k simple front sought
+  step_sought Exiting f k simple shun front root seeks sought bare = jump_sought Exiting f k simple front sought
+  step_sought Returning f k simple shun front root seeks sought bare = jump_sought Returning f k simple front sought

@@ -7,7 +7,7 @@ use Rattle.ada_program.specs.declared.program.ComponentKind.{ComponentKind}
 use Rattle.ada_program.specs.declared.program.VariableKind.{VariableKind}
 use Rattle.ada_program.specs.declared.program.VariableKind.TheVariants as variable
 use Rattle.ada_program.specs.ProgramForm.{TypeForm, VariableForm, ProgramForm}
-use Rattle.ada_program.specs.WellFormed.{variable_kind}
+use Rattle.ada_program.specs.WellFormed.{reached_components, variable_kind}
 use Rattle.ada_meaning.specs.declared.state.Place.{Place}
 use Rattle.ada_meaning.specs.declared.state.Stage.TheVariants.{Existing}
 use Rattle.ada_meaning.specs.declared.state.Value.{Value}
@@ -91,7 +91,17 @@ formal_first w (v ∷ vs) place at_first base = subst (IsFormal w) (sym (value_i
     value_is : {u : Value} → Some v ≡ Some u → v ≡ u
     value_is e = cc e
 
--- In a typed state of a body that tracks components, the object in which they lie is watched, where it exists, and no two of the components are one.
+-- In a typed state of a body that tracks components, these are there in the object in which they lie, and of access types.
+pub watched_access :
+    (own : ProgramForm) (w : View) → TracksComponents own.types w.tracks own.variables → (s : State) (place : Place) (x : Object) → typed.TypedIn own s
+    → slice_get (places s) 0 ≡ Some (Part w.object place) → place.component ≡ w.base → object_at s.heap w.object ≡ Some x
+    → (ks : List ComponentKind) × (reached_components own.types x.cell.access ≡ Some ks) × AreAccess ks (watched w)
+watched_access own w tracking s place x typing at_first base found =
+    let lies =
+    formal_lies own.types w s.heap own.variables (places s) tracking.object place x (filled_in own s typing) (held_in own s typing) tracking.formal at_first base found in
+    (lies.ks, lies.reached, watched_of_access own.types tracking.object lies.ks w.base w.tracks.components lies.lies tracking.components)
+
+-- That object is watched, where it exists, and no two of the components are one.
 pub watched_by :
     (own : ProgramForm) → TablesFit own → (w : View) → TracksComponents own.types w.tracks own.variables → (s : State) (place : Place) (x : Object) → typed.TypedIn own s
     → slice_get (places s) 0 ≡ Some (Part w.object place) → place.component ≡ w.base → length (places s) ≡ length own.variables
@@ -99,19 +109,18 @@ pub watched_by :
 watched_by own tables w tracking s place x typing at_first base count found exists apart =
     let cells = cells_of s.heap in
     let filled = filled_in own s typing in
-    let held = held_in own s typing in
-    let lies = formal_lies own.types w s.heap own.variables (places s) tracking.object place x filled held tracking.formal at_first base found in
+    let there = watched_access own w tracking s place x typing at_first base found in
     let own_cell = filled_at own.types cells cells w.object.0 x.cell filled (cell_at s.heap w.object.0 x found) in
-    let alike : own_cell.0 ≡ lies.ks = some_same (sym own_cell.1 ∙ lies.reached) in
-    let have : HaveKinds own.types cells lies.ks x.cell.values = subst (λ (ks : List ComponentKind). HaveKinds own.types cells ks x.cell.values) alike own_cell.2 in
-    let each : AreAccess lies.ks (watched w) = watched_of_access own.types tracking.object lies.ks w.base w.tracks.components lies.lies tracking.components in
+    let alike : own_cell.0 ≡ there.0 = some_same (sym own_cell.1 ∙ there.1) in
+    let have : HaveKinds own.types cells there.0 x.cell.values = subst (λ (ks : List ComponentKind). HaveKinds own.types cells ks x.cell.values) alike own_cell.2 in
+    let each : AreAccess there.0 (watched w) = there.2 in
     record {
       object = x;
       at_object = found;
       existing = exists;
-      below = are_below own.types cells lies.ks x.cell.values have (watched w) each;
+      below = are_below own.types cells there.0 x.cell.values have (watched w) each;
       apart = apart_shifted w.base w.tracks.components apart;
-      no_references = subst (λ (o : Option Object). AreNoReferences (values_at (watched w) (values_of o))) (sym found) (are_no_references own.types cells lies.ks x.cell.values have (watched w) each);
+      no_references = subst (λ (o : Option Object). AreNoReferences (values_at (watched w) (values_of o))) (sym found) (are_no_references own.types cells there.0 x.cell.values have (watched w) each);
       formal = formal_first w (places s) place at_first base;
       count = count ∙ sym tracking.behind;
     }
