@@ -7,7 +7,7 @@ ghost use Rattle.ada_tracked.specs.Staying.{SimpleBodiesStaySimple};
 /// While the body of an operation runs whose formal parameter has tracked components (7.6), the state in which each of them is a
 /// variable, and in whose heap they hold null, takes the same steps: the same is asked of storage and told to it, the same is
 /// shown but that the object of the formal parameter is followed, and the run ends as it does. Variables and components may name
-/// that object; the body looks at it by the formal parameter alone.
+/// that object; the body looks at it by the formal parameter alone, and copies none of its tracked components with a record.
 pub fn tracked_components_run_as_variables()
     ensures { TrackedComponentsRunAsVariables }
 {}
@@ -18,8 +18,8 @@ pub fn simple_bodies_stay_simple()
     ensures { SimpleBodiesStaySimple }
 {}
 
-/// The premises are met: a body reads a tracked component of its formal parameter that names another object, or assigns to it,
-/// and meets them again behind that step.
+/// The premises are met: a body reads a tracked component of its formal parameter that names another object, assigns to it, or
+/// copies a record out of its object beside such a component, and meets them again behind that step.
 pub fn premises_are_met()
     ensures { PremisesAreMet }
 {}
