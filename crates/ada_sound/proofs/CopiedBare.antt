@@ -153,17 +153,18 @@ module _ (tds : List TypeDefinition) (own : ProgramForm) (shows : map type_form 
   pub copies_none : typed.TypedIn own s → SoughtIsOther own.types o s.mode s.control (operands s) → CopiesNone tds o these s
   copies_none typing bare = first_none s.mode s.control typing refl refl bare
 
--- Components that are tracked are of access types.
-number_access :
-    (ks : List ComponentKind) (bs : List ℕ) (n c : ℕ) → AreAccess ks bs → is_some (number_at bs n c) ≡ true
-    → (own : TypeNo) × (component_kind (slice_get ks c) ≡ Some (variable.Access own))
+-- A component of an object with these is of an access type.
+abbrev IsOfAccess : List ComponentKind → (component : ℕ) → Type 0
+IsOfAccess ks c = (own : TypeNo) × (component_kind (slice_get ks c) ≡ Some (variable.Access own))
+
+-- Each that is tracked is.
+number_access : (ks : List ComponentKind) (bs : List ℕ) (n c : ℕ) → AreAccess ks bs → is_some (number_at bs n c) ≡ true → IsOfAccess ks c
 number_access ks [] n c each is = absurd (cc)
 number_access ks (b ∷ bs) n c each is = by (c == b) refl is (λ more. number_access ks bs (n + 1) c each.1 more)
   where
-    abbrev Found : Type 0
-    Found = (own : TypeNo) × (component_kind (slice_get ks c) ≡ Some (variable.Access own))
-
-    by : (q : Bool) → (c == b) ≡ q → is_some (if q then Some n else number_at bs (n + 1) c) ≡ true → (is_some (number_at bs (n + 1) c) ≡ true → Found) → Found
+    by :
+        (q : Bool) → (c == b) ≡ q → is_some (if q then Some n else number_at bs (n + 1) c) ≡ true
+        → (is_some (number_at bs (n + 1) c) ≡ true → IsOfAccess ks c) → IsOfAccess ks c
     by true same first further = (each.0.0, ap (λ (i : ℕ). component_kind (slice_get ks i)) (eqb-true c b same) ∙ each.0.1)
     by false same first further = further first
 

@@ -1,7 +1,7 @@
 -- What comes next of a body that spares an access type: a frame that follows selectors comes in front only with an operand that leads to another object, and one
 -- that copies a record only where that has no component of an access type.
 
-use Rattle.std.proofs.Common.{◌≡◌, ℕ, Bool, true, false, List, [], ◌∷◌, Option, Some, None, Result, Ok, Err, drop, map, refl, sym, ap, ◌∙◌, subst}
+use Rattle.std.proofs.Common.{◌≡◌, ℕ, Bool, true, false, List, [], ◌∷◌, Option, Some, None, Result, Ok, Err, drop, map, refl, sym, subst}
 use Rattle.std.specs.Prelude.{ℤ, int_le, if◌then◌else◌}
 use Rattle.std.specs.List.{list_all, slice_get, slice_index_or}
 use Rattle.std.proofs.lemmas.Bool.{and_parts}
