@@ -1,7 +1,7 @@
 -- Each step while the body of an Adjust runs that tracks components of its formal parameter (7.6), its end included, from facts of the program and the state
 -- alone.
 
-use Rattle.std.proofs.Common.{◌≡◌, ℕ, true, false, List, [], ◌∷◌, ◌++◌, refl, sym, ap, ◌∙◌, subst, drop, length}
+use Rattle.std.proofs.Common.{◌≡◌, ℕ, Bool, true, false, List, [], ◌∷◌, ◌++◌, refl, sym, ap, ◌∙◌, subst, drop, length}
 use Rattle.std.proofs.lemmas.Bool.{and_parts}
 use Rattle.std.specs.Prelude.{Option, Some}
 use Rattle.std.specs.List.{list_all, slice_get}
@@ -18,7 +18,7 @@ use Rattle.ada_meaning.specs.declared.state.Value.{Value}
 use Rattle.ada_meaning.specs.Step.{halts, moves, tells, asks, picks, older, operands, places}
 use Rattle.ada_program.specs.declared.program.Program.{Program}
 use Rattle.ada_program.specs.Freed.{FreesItsOwn}
-use Rattle.ada_program.specs.ProgramForm.{BodyForm, ProgramForm, body_forms, main_body, program_form, seen_by, seen_in, record_of}
+use Rattle.ada_program.specs.ProgramForm.{TypeForm, BodyForm, ProgramForm, body_forms, main_body, program_form, seen_by, seen_in, record_of}
 use Rattle.ada_program.specs.WellFormed.{IsWellFormed}
 use Rattle.ada_reaching.specs.Law.{FirstHousesIts}
 use Rattle.ada_tracked.proofs.Law.{plainly_at_end}

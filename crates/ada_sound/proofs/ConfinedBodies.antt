@@ -18,7 +18,6 @@ use Rattle.ada_flow.specs.Tracking.{Tracks}
 use Rattle.ada_judged.specs.Fitting.{TracksComponents}
 use Rattle.ada_tracked.specs.Simple.{IsFrom}
 use Rattle.ada_beside.specs.Confined.{IsConfinedFrom, IsCopiedFrom, PathIsConfined, ExpressionIsConfined, LinksAreConfined, ConditionIsConfined, ItemIsConfined, ItemsAreConfined, RightIsConfined, DeclarationIsConfined, DeclarationsAreConfined, StatementIsConfined, StatementsAreConfined, BranchesAreConfined, HandlersAreConfined}
-use Rattle.ada_quiet.specs.Bare.{has_bare_objects}
 use Rattle.ada_quiet.specs.InUse.{count_found}
 use Rattle.ada_quiet.specs.Simple.{is_simple_declaration, are_simple_declarations, is_simple_stmt, are_simple, are_simple_branches, are_simple_handlers, is_simple_body}
 use Rattle.ada_typed.proofs.Bodies.{SeenFits, seen_fits, seen_as}

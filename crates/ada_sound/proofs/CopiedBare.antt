@@ -30,7 +30,7 @@ use Rattle.ada_flow.specs.Flow.{Holds, is_owning, is_owning_record, owns_among}
 use Rattle.ada_tracked.specs.Copying.{AreNoneOf, FirstCopiesNone, CopiesNone, is_tracked_at}
 use Rattle.ada_tracked.specs.Forms.{seen_record}
 use Rattle.ada_tracked.specs.Frames.{View, watched, number_at, number_in, stored_as, cleared_as, seen_control}
-use Rattle.ada_tracked.specs.Seen.{leads_to, seen_state, Waiting, assigning, getting, freeing, waiting_frame, Seen, plainly, following, elsewhere, behind}
+use Rattle.ada_tracked.specs.Seen.{leads_to, Waiting, assigning, getting, freeing, waiting_frame, Seen, plainly, following, elsewhere, behind}
 use Rattle.ada_tracked.specs.Staying.{BodyIsSimple}
 use Rattle.ada_typed.specs.Holding.{Cells, cells_of}
 use Rattle.ada_typed.proofs.Control as typed
@@ -43,7 +43,7 @@ use Rattle.ada_sound.proofs.CopyParts.{head_in, tail_in}
 use Rattle.ada_sound.proofs.Invariant.{Control, FillsTo, Known, OwnsNothing, Ready, ReadyIn, Rooms}
 use Rattle.ada_sound.proofs.JudgedTyped.{AreAccess}
 use Rattle.ada_sound.proofs.Returns.{same_types}
-use Rattle.ada_sound.proofs.SparingLooks.{ItemIsBare, NextIsBare, SoughtIsOther}
+use Rattle.ada_sound.proofs.SparingLooks.{NextIsBare, SoughtIsOther}
 
 -- These components are of access types in the objects that are known by a type (3.10).
 abbrev pub EachIsAccess : List TypeForm → (access : ℕ) → (these : (component : ℕ) → Bool) → Type 0

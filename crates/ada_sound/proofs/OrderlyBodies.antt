@@ -18,7 +18,6 @@ use Rattle.ada_tracked.specs.Simple.{IsVariable, IsFrom}
 use Rattle.ada_judged.specs.Fitting.{TracksComponents}
 use Rattle.ada_judged.specs.Obeying.{PathIsOrderly, WayIsOrderly, ExpressionIsOrderly, LinksAreOrderly, ConditionIsOrderly, ItemIsOrderly, ItemsAreOrderly, RightIsOrderly, DeclarationIsOrderly, DeclarationsAreOrderly, StatementIsOrderly, StatementsAreOrderly, BranchesAreOrderly, HandlersAreOrderly, BodyIsOrderly}
 use Rattle.ada_judged.proofs.FittingRecords.{statements_record}
-use Rattle.ada_quiet.specs.Bare.{has_bare_objects}
 use Rattle.ada_quiet.specs.Simple.{holds_one_value, is_simple_declaration, are_simple_declarations, is_simple_stmt, are_simple, are_simple_branches, are_simple_handlers, is_simple_body}
 use Rattle.ada_typed.proofs.Bodies.{SeenFits, seen_fits, seen_as}
 use Rattle.ada_typed.proofs.Operators.{typed, unary_operand, binary_operand, chain_left}
