@@ -1,6 +1,6 @@
 -- Jumps in a body that shuns some access types, and each of its steps.
 
-use Rattle.std.proofs.Common.{◌≡◌, ℕ, Bool, true, false, List, [], ◌∷◌, map, Some, refl, sym, inl, inr, subst}
+use Rattle.std.proofs.Common.{◌≡◌, ℕ, Bool, true, false, List, [], ◌∷◌, map, Some, refl, sym, ◌⊎◌, inl, inr, subst}
 use Rattle.std.specs.Prelude.{if◌then◌else◌}
 use Rattle.std.proofs.lemmas.Bool.{and_parts}
 use Rattle.ada_program.specs.declared.program.Exception.{Exception}
@@ -9,6 +9,7 @@ use Rattle.ada_program.specs.Form.{ActualForm, HandlersForm, no_handlers, a_hand
 use Rattle.ada_program.specs.Handling.{some_takes, handler_of}
 use Rattle.ada_program.specs.ProgramForm.{TypeForm, VariableForm, type_form}
 use Rattle.ada_parts.specs.Part.{Part}
+use Rattle.ada_parts.specs.Task.{Task}
 use Rattle.ada_meaning.specs.declared.event.Birth.{Birth}
 use Rattle.ada_meaning.specs.declared.event.Birth.TheVariants.{Creation, Copy, Adjustment}
 use Rattle.ada_meaning.specs.declared.state.Mode.{Mode}
@@ -21,7 +22,7 @@ use Rattle.ada_meaning.specs.Step.{operands, broken_next, broken_off, landed, un
 use Rattle.ada_meaning.specs.Named.{Object, State, named, look, next}
 use Rattle.ada_untouched.specs.Untouched.{IsInSight}
 use Rattle.ada_reaching.specs.Apart.{AreBegunIn}
-use Rattle.ada_reaching.specs.Reaching.{FrameShuns, InMasters, IsLast, MayJump, begins_anew, is_leaving, references_at}
+use Rattle.ada_reaching.specs.Reaching.{FrameShuns, InMasters, IsAdjusting, IsLast, MayJump, begins_anew, is_leaving, references_at}
 use Rattle.ada_reaching.specs.Forms.{statements_shun, handlers_shun}
 use Rattle.ada_reaching.specs.Law.{AreApart, FirstHousesIts, AllGoOn}
 use Rattle.ada_reaching.proofs.Going.{World, variables_in, Runs, LeftIn, Left, On, Goes, OperandsSeek, may_jump, reaches, runs_on, stays}
