@@ -1,6 +1,6 @@
 -- What an operation of a record does not do, no procedure does that overrides it of the type of a part to which the treatment of the record comes (7.6, 7.6.1).
 
-use Rattle.std.proofs.Common.{◌≡◌, ℕ, Bool, true, false, List, ◌∷◌, Option, Some, refl, sym, ap, ◌∙◌, subst}
+use Rattle.std.proofs.Common.{◌≡◌, ℕ, false, List, ◌∷◌, Some, sym, ap, ◌∙◌, subst}
 use Rattle.std.specs.List.{slice_get}
 use Rattle.std.specs.Option.{option_map}
 use Rattle.std.proofs.lemmas.Bool.{false_from_ne_true}
@@ -23,7 +23,7 @@ use Rattle.ada_program.specs.Controlled.{number_of, operations_of, parts_by, pro
 use Rattle.ada_program.specs.ProgramForm.{PartForm, ProgramForm, part_form, program_form}
 use Rattle.ada_program.specs.WellFormed.{IsWellFormed}
 use Rattle.ada_reaching.specs.Apart.{IsLeftIn}
-use Rattle.ada_reaching.proofs.Inert.{EachIn, HoldsIn, left_each}
+use Rattle.ada_reaching.proofs.Inert.{HoldsIn, left_each}
 use Rattle.ada_sound.proofs.Started.{numbered_one}
 
 module _ (program : Program) (well : IsWellFormed (program_form program)) (operation : Operation) (deed : Deed) where

@@ -51,7 +51,7 @@ use Rattle.ada_scopes.specs.Scopes.{is_innermost}
 use Rattle.ada_sound.proofs.Fits.{IsOwnedAmong, IsOwnedOutside, IsReferred, Outsiders, Reference, referred_behind, referred_first}
 use Rattle.ada_sound.proofs.FreesCovered.{frees_among}
 use Rattle.ada_sound.proofs.Allowance.{Allowance, allowance_of}
-use Rattle.ada_sound.proofs.FrugalControl.{Frugal, FrugalBegins, FrugalLeads, FrugalLeaves, FrugalOperated, IsAdjusted, IsAssigned, IsInside, begins_first, none_operated, operated_in, own_in, waits_first}
+use Rattle.ada_sound.proofs.FrugalControl.{Frugal, FrugalBegins, FrugalLeads, FrugalLeaves, FrugalOperated, IsAssigned, IsInside, begins_first, none_operated, operated_in, own_in, waits_first}
 use Rattle.ada_sound.proofs.FrugalFrees.{LeftAlone}
 use Rattle.ada_sound.proofs.Leavings.{NamedBelow}
 use Rattle.ada_sound.proofs.Grounds.{Grounds, may_free}
