@@ -143,7 +143,7 @@ frugal_nests p kinds number is around all =
 
 -- What a body goes by that calls nothing.
 abbrev pub calling_none : List TypeForm → Thrift
-calling_none types = record { types = types; unadjusted = []; unfinalized = []; procedures = []; operation = false }
+calling_none types = record { types = types; unadjusted = []; unfinalized = []; untracked = false; procedures = []; operation = false }
 
 -- Such a body nests so, whatever calls create.
 pub lone_nests : (types : List TypeForm) → KindsOpen types → (callees : Callees) (b : BodyForm) (around : List ℕ) → HasAll types around → is_frugal_body (calling_none types) b ≡ true

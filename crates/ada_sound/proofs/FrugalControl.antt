@@ -1,7 +1,8 @@
 -- The body of an operation runs that touches storage, a frugal one (7.6, 7.6.1, 13.11.2), or one that it calls (6.4), or the operation of an object that it
 -- frees, allocates or declares: what is left before its end. Where bodies may allocate and free objects with controlled parts, these are initialized first, and
 -- finalized, also where an exception comes out of an Initialize; and where they may declare record objects, these are finalized where their master is left.
--- The body of an operation itself may assign to inert records (5.2): these alone are adjusted.
+-- The body of an operation itself may assign to inert records (5.2): these are adjusted, and so are copies that are declared (3.3.1), for which an Adjust may be
+-- called where none tracks.
 
 use Rattle.std.proofs.Common.{◌≡◌, ℕ, suc, ◌≤◌, Bool, true, false, ◌&&◌, List, [], ◌∷◌, ◌++◌, length, refl, sym, ap, subst, ◌⊎◌, inl, inr, arith}
 use Rattle.std.specs.Prelude.{◌||◌, Some}
@@ -49,10 +50,10 @@ IsLeft (ends (Freeing number)) = ⊥
 IsLeft (ends (Assigning number)) = ⊥
 IsLeft (ends (Undoing number)) = ⊥
 
--- Or it is initialized, in the body of another operation that allocates or declares it (4.8, 3.3.1).
+-- Or it is initialized, in the body of another operation that allocates or declares it (4.8, 3.3.1), or adjusted as a declared copy.
 abbrev pub IsInside : Treatment → Type 0
 IsInside (begins Creation done) = Unit {0}
-IsInside (begins Copy done) = ⊥
+IsInside (begins Copy done) = Unit {0}
 IsInside (begins (Adjustment number) done) = ⊥
 IsInside (ends cause) = IsEnded (ends cause) ⊎ IsLeft (ends cause)
 
@@ -245,9 +246,15 @@ LeavesOperation frugal k = (frugal.objects ≡ true) × NoOperationRunsOn (final
 abbrev pub EndsOperation : Allowance → Control → Type 0
 EndsOperation frugal k = (frugal.treats_parts ≡ true) × NoOperationRunsOn (finalized_before k) k
 
+-- An object is created (3.3.1, 4.8), by default, or as a copy, where no Adjust tracks.
+abbrev pub IsCreated : Allowance → Birth → Type 0
+IsCreated frugal Creation = Unit {0}
+IsCreated frugal Copy = (frugal.untracked ≡ true)
+IsCreated frugal (Adjustment number) = ⊥
+
 -- A new object begins, and behind that no operation of it runs.
 abbrev pub BeginsThere : Allowance → Value → Birth → Control → Type 0
-BeginsThere frugal v by k = (by ≡ Creation) × (frugal.objects ≡ true) × NoOperationRunsOn v k
+BeginsThere frugal v by k = IsCreated frugal by × (frugal.objects ≡ true) × NoOperationRunsOn v k
 
 -- What the frugal bodies of the program go by.
 module _ (frugal : Allowance) where

@@ -51,7 +51,7 @@ use Rattle.ada_scopes.specs.Scopes.{is_innermost}
 use Rattle.ada_sound.proofs.Fits.{IsOwnedAmong, IsOwnedOutside, IsReferred, Outsiders, Reference, referred_behind, referred_first}
 use Rattle.ada_sound.proofs.FreesCovered.{frees_among}
 use Rattle.ada_sound.proofs.Allowance.{Allowance, allowance_of}
-use Rattle.ada_sound.proofs.FrugalControl.{Frugal, FrugalBegins, FrugalLeads, FrugalLeaves, FrugalOperated, IsAdjusted, IsAssigned, IsInside, begins_first, none_operated, operated_in, own_in, waits_first}
+use Rattle.ada_sound.proofs.FrugalControl.{Frugal, FrugalBegins, FrugalLeads, FrugalLeaves, FrugalOperated, IsAssigned, IsInside, begins_first, none_operated, operated_in, own_in, waits_first}
 use Rattle.ada_sound.proofs.FrugalFrees.{LeftAlone}
 use Rattle.ada_sound.proofs.Leavings.{NamedBelow}
 use Rattle.ada_sound.proofs.Grounds.{Grounds, may_free}
@@ -642,12 +642,7 @@ module _ (program : Program) (spares : SparesOwn program) (s : State) where
     others_referred others [] o t is = is
     others_referred others (g ∷ inner) o t is = referred_behind g.referenced (referenced_in (callers_of program (inner ++ others))) o t (others_referred others inner o t is)
 
--- Nothing is adjusted that begins inside of another operation, and nothing is assigned to that ends there.
-adjusted_outside : (by : Birth) (done : List parts.Part) → IsAdjusted by → IsInside (begins by done) → ⊥
-adjusted_outside Creation done adjusted inside = adjusted
-adjusted_outside Copy done adjusted inside = inside
-adjusted_outside (Adjustment number) done adjusted inside = inside
-
+-- Nothing is assigned to that ends inside of another operation.
 assigned_outside : (cause : Cause) → IsAssigned cause → IsInside (ends cause) → ⊥
 assigned_outside (Leaving m item) assigned inside = assigned
 assigned_outside (Freeing number) assigned inside = assigned
@@ -765,7 +760,9 @@ module _ (program : Program) (s : State) (grounds : Grounds program s) (gs : Lis
       by way here ms (inl q) = behind ms q.0.3 q.1
       by way here ms (inr (inl leaving)) = behind_leaving ms leaving.1.0.3 leaving.1.1
       by (begins birth done) here ms (inr (inr (may, (inl fresh, q)))) = behind ms fresh.2 q
-      by (begins birth done) here ms (inr (inr (may, (inr adjusting, q)))) = absurd (adjusted_outside birth done adjusting.0 here)
+      by (begins Creation done) here ms (inr (inr (may, (inr adjusting, q)))) = absurd adjusting.0
+      by (begins Copy done) here ms (inr (inr (may, (inr adjusting, q)))) = behind ms adjusting.1.2 q
+      by (begins (Adjustment number) done) here ms (inr (inr (may, (inr adjusting, q)))) = absurd here
       by (ends cause) here ms (inr (inr (may, (ending, q)))) = absurd (assigned_outside cause ending.0 here)
 
   -- What is outside of the running body.
