@@ -1,12 +1,12 @@
 -- The masters of the bodies' own, where bodies shun some access types: which frames stand for them, and what they own.
 
-use Rattle.std.proofs.Common.{◌≡◌, ◌≤◌, ℕ, Bool, true, false, List, [], ◌∷◌, ◌++◌, Option, refl, sym, ap, ◌∙◌, inl, inr, subst, arith}
+use Rattle.std.proofs.Common.{◌≡◌, ◌≤◌, ℕ, Bool, true, false, List, [], ◌∷◌, ◌++◌, Option, sym, ap, ◌∙◌, inl, inr, subst, arith}
 use Rattle.ada_program.specs.ProgramForm.{ProgramForm}
 use Rattle.ada_meaning.specs.declared.state.Id.{Id}
 use Rattle.ada_meaning.specs.declared.state.Value.{Value}
 use Rattle.ada_meaning.specs.Frame.{Frame}
 use Rattle.ada_meaning.specs.Frame as frame
-use Rattle.ada_meaning.specs.State.{Activation, Owned, Item, Master, declared, height}
+use Rattle.ada_meaning.specs.State.{Activation, Item, Master, declared, height}
 use Rattle.ada_meaning.specs.Step.{older, owned, owning, procedure_of, shorter}
 use Rattle.ada_meaning.specs.Named.{Object, State}
 use Rattle.ada_reaching.specs.Apart.{Apart}

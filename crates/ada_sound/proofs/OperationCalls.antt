@@ -143,7 +143,7 @@ module _ (program : Program) (o : Id) (treatment : Treatment) (caller : Activati
         by : AroundTreated program treatment w.suspensions (behind_in s) → AroundTreated program treatment w.suspensions (behind_in after)
         by (inl none) = inl none
         by (inr (inside, within)) =
-            inr (inside, within_kept program (behind_in s) (behind_in after) o (ends_next inside) others refl refl w.suspensions Quiet within refl refl alters)
+            inr (inside, within_kept program (behind_in s) (behind_in after) o (ends_next inside) others refl refl refl w.suspensions Quiet within refl alters)
 
     -- What waits for it waits still.
     waits_still :

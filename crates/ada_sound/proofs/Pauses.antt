@@ -222,7 +222,7 @@ module _ (program : Program) (s after : State) (active : after.activations ≡ s
 
 -- So it is while no object changes but one whose treatment goes on behind: what is watched is another one.
 module _ (program : Program) (s after : State) (o : Id) (going : GoesOnBehind o s.control) (others : OthersStay o s.heap after.heap)
-    (control : after.control ≡ s.control) (active : after.activations ≡ s.activations) where
+    (control : after.control ≡ s.control) (active : after.activations ≡ s.activations) (mode : after.mode ≡ s.mode) where
   abbrev p : ProgramForm
   p = program_form program
 
@@ -254,11 +254,11 @@ module _ (program : Program) (s after : State) (o : Id) (going : GoesOnBehind o 
         by : GoesOnBehind o s.control → IsReaching p (watches p.types (Some w)) apart (is_watched (Some w)) (is_unnamed p.types (Some w)) behind lower after
         by (inl ending) =
             reaching_kept p (watches p.types (Some w)) apart (is_watched (Some w)) (is_unnamed p.types (Some w)) behind lower
-            (treating (Names o) (ends ending.cause) ending.tasks (frame.Ends (Names o) ∷ ending.rest)) s after ending.is control active masters ghosts_stay
+            (treating (Names o) (ends ending.cause) ending.tasks (frame.Ends (Names o) ∷ ending.rest)) s after ending.is control active masters (λ runs. sym mode ∙ runs) ghosts_stay
             reaching
         by (inr begun) =
             waiting_kept p (watches p.types (Some w)) apart (is_watched (Some w)) (is_unnamed p.types (Some w)) behind lower
-            (frame.Awaits (Names o) Creation begun.done begun.of begun.part begun.tasks) begun.rest s after refl begun.is control active masters ghosts_stay
+            (frame.Awaits (Names o) Creation begun.done begun.of begun.part begun.tasks) begun.rest s after refl begun.is control active masters (λ runs. sym mode ∙ runs) ghosts_stay
             reaching
 
   watched_on :
@@ -269,9 +269,8 @@ module _ (program : Program) (s after : State) (o : Id) (going : GoesOnBehind o 
       (others w.holder (holder_other w apart behind lower reaching) ∙ found, (apart, are, reaching_still w apart behind lower reaching masters))
 
   pub within_kept :
-      (gs : List Suspension) (e : Event) → Within program gs s → after.mode ≡ s.mode → after.masters ≡ s.masters → Alters s.heap e after.heap
-      → Within program gs after
-  within_kept gs e w mode masters alters = within_by program s after active (watched_on masters) gs e w masters alters (rw (mode, control) w.frugal.frugally)
+      (gs : List Suspension) (e : Event) → Within program gs s → after.masters ≡ s.masters → Alters s.heap e after.heap → Within program gs after
+  within_kept gs e w masters alters = within_by program s after active (watched_on masters) gs e w masters alters (rw (mode, control) w.frugal.frugally)
 
 -- Where the operation has come to its end that begins a part of a new object, frugal bodies go on, too, if an exception has come out of it (7.6).
 raised_frugal :
@@ -299,7 +298,7 @@ module _ (program : Program) (gs : List Suspension) (s : State) (e : Exception) 
           apart,
           are,
           waiting_kept p (watches p.types (Some w)) apart (is_watched (Some w)) (is_unnamed p.types (Some w)) behind lower
-              (frame.Awaits (Names o) Creation begun.done begun.of begun.part begun.tasks) begun.rest s raised refl begun.is refl refl refl (λ q ghost. refl)
+              (frame.Awaits (Names o) Creation begun.done begun.of begun.part begun.tasks) begun.rest s raised refl begun.is refl refl refl (λ runs. absurd (cc runs)) (λ q ghost. refl)
               reaching,
         ),
       )
