@@ -1,7 +1,7 @@
 -- What is left behind an operation of an object that is freed (7.6.1, 13.11.2) or allocated (7.6, 4.8), where bodies that shun some access types wait for it.
 
 use Rattle.ada_meaning.specs.declared.event.Cause.TheVariants.{Assigning}
-use Rattle.std.proofs.Common.{◌≡◌, ◌≤◌, ◌⊎◌, ℕ, suc, Bool, true, false, not, List, [], ◌∷◌, ◌++◌, length, Option, Some, arith, refl, sym, ap, ◌∙◌, subst, inl, inr}
+use Rattle.std.proofs.Common.{◌≡◌, ◌≤◌, ◌⊎◌, ℕ, suc, Bool, true, false, not, List, [], ◌∷◌, ◌++◌, length, Option, Some, arith, refl, sym, ap, ◌∙◌, subst, inl, inr, ◌&&◌}
 use Rattle.ada_parts.specs.Task.{Task}
 use Rattle.ada_program.specs.ProgramForm.{TypeForm, BodyForm, ProgramForm}
 use Rattle.ada_meaning.specs.declared.event.Cause.{Cause}
@@ -217,7 +217,7 @@ module _ (p : ProgramForm) (shuns : ℕ → Bool) (apart : Apart) (ghosts unname
       → LeftShuns p shuns apart ghosts unnamed behind lower procedure
       (frame.Confines ∷ treating v (ends (Assigning number)) tasks (frame.Copies first t ∷ frame.StoresRecord v to width ∷ k)) ms suspended
       → IsInSight ghosts v
-  assigned_other v number first t to width [] k procedure ms suspended left = left.2.2.2.0
+  assigned_other v number first t to width [] k procedure ms suspended left = left.2.2.0
   assigned_other v number first t to width (task ∷ tasks) k procedure ms suspended left = left.2.0.0
 
   -- What is left of such bodies is longer than what is behind all of them.
