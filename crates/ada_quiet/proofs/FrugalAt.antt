@@ -11,7 +11,7 @@ use Rattle.ada_quiet.specs.Apart.{is_bare_item}
 use Rattle.ada_quiet.specs.Bare.{has_bare_objects}
 use Rattle.std.proofs.lemmas.Bool.{or_cases, or_left, or_right}
 use Rattle.ada_quiet.specs.Calm.{is_known_calm}
-use Rattle.ada_quiet.specs.Frugal.{Thrift, assigns_at_hand, allocates_frugally, called_by, is_bare_initial, is_unfinalized, is_unadjusted, is_unadjusted_named, is_unadjusted_initial, is_frugal_declaration, are_frugal_declarations, is_frugal_stmt, are_frugal, are_frugal_branches, are_frugal_handlers, is_frugal_body, frugal_from, frugal_procedures, frugal_operations, thrift_of}
+use Rattle.ada_quiet.specs.Frugal.{Thrift, assigns_at_hand, allocates_frugally, called_by, is_bare_initial, is_copied_initial, is_unfinalized, is_unadjusted, is_unadjusted_named, is_unadjusted_initial, is_frugal_declaration, are_frugal_declarations, is_frugal_stmt, are_frugal, are_frugal_branches, are_frugal_handlers, is_frugal_body, frugal_from, frugal_procedures, frugal_operations, thrift_of}
 use Rattle.ada_quiet.proofs.InUse.{others}
 
 -- One of two tests is passed, where one is of two that ask for more.
@@ -32,8 +32,10 @@ TellsMore less more = (n : ℕ) → slice_index_or less n false ≡ true → sli
 abbrev pub OperatesMore : (less more : Bool) → Type 0
 OperatesMore less more = less ≡ true → more ≡ true
 
--- What is frugal by the one is so by the other, which knows at least the same procedures, and the same of record types, and is asked of operations, if the one is.
+-- What is frugal by the one is so by the other, which knows at least the same procedures, the same of record types, and the same of what tracks, and is asked of
+-- operations, if the one is.
 module _ (one other : Thrift) (same : one.types ≡ other.types) (alike : one.unadjusted ≡ other.unadjusted) (finalized : one.unfinalized ≡ other.unfinalized)
+    (untracked : one.untracked ≡ other.untracked)
     (tells : TellsMore one.procedures other.procedures) (operates : OperatesMore one.operation other.operation) where
   -- What is asked of types holds of the same types.
   bare_more : (t : ℕ) → has_bare_objects one.types t ≡ has_bare_objects other.types t
@@ -58,16 +60,22 @@ module _ (one other : Thrift) (same : one.types ≡ other.types) (alike : one.un
   unadjusted_more None h = absurd (cc h)
   unadjusted_more (Some t) h = known_more t one.unadjusted other.unadjusted alike h
 
-  initial_more : (t : ℕ) (items : List ItemForm) → (is_bare_initial one.types t items || is_unadjusted_initial one t) ≡ true
-      → (is_bare_initial other.types t items || is_unadjusted_initial other t) ≡ true
-  initial_more t items h = elim (or_cases (is_bare_initial one.types t items) (is_unadjusted_initial one t) h) [
-    | inl bare ↦
-        or_left (is_bare_initial other.types t items) (is_unadjusted_initial other t)
-        (ap (λ (types : List TypeForm). is_bare_initial types t items) (sym same) ∙ bare)
+  copied_more : (t : ℕ) → is_copied_initial one t ≡ true → is_copied_initial other t ≡ true
+  copied_more t h = elim (or_cases one.untracked (is_unadjusted_initial one t) h) [
+    | inl none ↦ or_left other.untracked (is_unadjusted_initial other t) (sym untracked ∙ none)
     | inr copied ↦
-        or_right (is_bare_initial other.types t items) (is_unadjusted_initial other t)
+        or_right other.untracked (is_unadjusted_initial other t)
         (ap (λ (types : List TypeForm). is_unadjusted_named other (object_named types (Some t))) (sym same)
         ∙ unadjusted_more (object_named one.types (Some t)) copied)
+  ]
+
+  initial_more : (t : ℕ) (items : List ItemForm) → (is_bare_initial one.types t items || is_copied_initial one t) ≡ true
+      → (is_bare_initial other.types t items || is_copied_initial other t) ≡ true
+  initial_more t items h = elim (or_cases (is_bare_initial one.types t items) (is_copied_initial one t) h) [
+    | inl bare ↦
+        or_left (is_bare_initial other.types t items) (is_copied_initial other t)
+        (ap (λ (types : List TypeForm). is_bare_initial types t items) (sym same) ∙ bare)
+    | inr copied ↦ or_right (is_bare_initial other.types t items) (is_copied_initial other t) (copied_more t copied)
   ]
 
   declaration_more : (d : DeclarationForm) → is_frugal_declaration one d ≡ true → is_frugal_declaration other d ≡ true
@@ -206,7 +214,7 @@ module _ (types : List TypeForm) where
       let frugal : here ≡ true = sym (kept ∙ append_last known here) ∙ ap (λ (j : ℕ). slice_index_or all j false) (sym first) ∙ told in
       let same : c ≡ b = cc at in
       subst (λ (d : BodyForm). is_frugal_body (called_by types all) d ≡ true) same
-      (body_more (called_by types known) (called_by types all) refl refl refl (λ j h. from_more more bs j (append_more known (here ∷ []) j h))
+      (body_more (called_by types known) (called_by types all) refl refl refl refl (λ j h. from_more more bs j (append_more known (here ∷ []) j h))
       (λ h. h) c frugal)
   from_at known (c ∷ bs) (suc n) i b place at told =
       let here = is_frugal_body (called_by types known) c in
@@ -223,7 +231,7 @@ frugal_called p number b told there = from_at p.types [] p.bodies number number 
 
 -- What is frugal as it is called is so as an operation.
 pub frugal_more : (p : ProgramForm) (b : BodyForm) → is_frugal_body (thrift_called p) b ≡ true → is_frugal_body (thrift_of p) b ≡ true
-frugal_more p b frugal = body_more (thrift_called p) (thrift_of p) refl refl refl (λ n h. h) (λ h. refl) b frugal
+frugal_more p b frugal = body_more (thrift_called p) (thrift_of p) refl refl refl refl (λ n h. h) (λ h. refl) b frugal
 
 -- So a procedure that is told to be frugal has a body that is frugal as that of an operation, too.
 pub frugal_at : (p : ProgramForm) (number : ℕ) (b : BodyForm) → slice_index_or (frugal_procedures p) number false ≡ true
@@ -249,13 +257,13 @@ alike false false there back = refl
 
 -- So it is by what is known, where the same is.
 pub thrift_alike :
-    (one other : Thrift) → one.types ≡ other.types → one.unadjusted ≡ other.unadjusted → one.unfinalized ≡ other.unfinalized → one.procedures ≡ other.procedures
-    → one.operation ≡ other.operation → (b : BodyForm) → is_frugal_body one b ≡ is_frugal_body other b
-thrift_alike one other types unadjusted unfinalized procedures operation b =
+    (one other : Thrift) → one.types ≡ other.types → one.unadjusted ≡ other.unadjusted → one.unfinalized ≡ other.unfinalized → one.untracked ≡ other.untracked
+    → one.procedures ≡ other.procedures → one.operation ≡ other.operation → (b : BodyForm) → is_frugal_body one b ≡ is_frugal_body other b
+thrift_alike one other types unadjusted unfinalized untracked procedures operation b =
     alike (is_frugal_body one b) (is_frugal_body other b)
-    (body_more one other types unadjusted unfinalized (λ n h. ap (λ (known : List Bool). slice_index_or known n false) (sym procedures) ∙ h)
+    (body_more one other types unadjusted unfinalized untracked (λ n h. ap (λ (known : List Bool). slice_index_or known n false) (sym procedures) ∙ h)
     (λ h. sym operation ∙ h) b)
-    (body_more other one (sym types) (sym unadjusted) (sym unfinalized) (λ n h. ap (λ (known : List Bool). slice_index_or known n false) procedures ∙ h)
+    (body_more other one (sym types) (sym unadjusted) (sym unfinalized) (sym untracked) (λ n h. ap (λ (known : List Bool). slice_index_or known n false) procedures ∙ h)
     (λ h. operation ∙ h) b)
 
 -- Tests that tell the same tell the same of each element.

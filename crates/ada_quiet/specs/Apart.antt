@@ -8,7 +8,7 @@ use Rattle.ada_program.specs.declared.program.Finalization.{Finalization}
 use Rattle.ada_program.specs.declared.program.ProcedureNo.{ProcedureNo}
 use Rattle.ada_program.specs.Form.{ItemForm, null_item, item_of_path, item_of_value, item_of_record, RightForm, nothing, value_of, allocates, allocates_default, computes, StmtForm, skips, assigns, assigns_record, frees, gets, writes, writes_text, chooses, repeats, counts, exits, calls, returns, raises, encloses, StmtsForm, no_stmts, a_stmt, BranchesForm, otherwise, a_branch, HandlersForm, no_handlers, a_handler, DeclarationForm, creates_pool, collects, declares, declares_record}
 use Rattle.ada_program.specs.ProgramForm.{TypeForm, BodyForm, ProgramForm, main_body}
-use Rattle.ada_program.specs.WellFormed.{finalization_in, finalization_of}
+use Rattle.ada_program.specs.WellFormed.{finalization_in, finalization_of, is_inherited}
 use Rattle.ada_quiet.specs.Bare.{has_bare_objects}
 use Rattle.ada_quiet.specs.Quiet.{has_access}
 
@@ -25,6 +25,15 @@ is_adjust_of n (Some f) = is_this_one n f.operations.adjust
 -- A procedure tracks, if it overrides Adjust of a type that declares a component of an access type directly (3.10, 7.6).
 abbrev pub is_tracker : ProgramForm → (procedure : ℕ) → Bool
 is_tracker p n = list_any (λ t. has_access (Some t) && is_adjust_of n (finalization_in (Some t))) p.types
+
+-- A type that declares a component of an access type directly overrides no Adjust (3.10, 7.6).
+abbrev pub leaves_access : TypeForm → Option Finalization → Bool
+leaves_access t None = true
+leaves_access t (Some f) = not (has_access (Some t)) || is_inherited f.operations.adjust
+
+-- So it is with each of these types: no Adjust tracks, and a record that is copied has no component of an access type, at any depth.
+abbrev pub leave_access : List TypeForm → Bool
+leave_access types = list_all (λ t. leaves_access t (finalization_in (Some t))) types
 
 -- An item of an aggregate copies no record with controlled parts (4.3.1, 7.6).
 abbrev pub is_bare_item : List TypeForm → ItemForm → Bool

@@ -1,6 +1,7 @@
 -- Bodies of Initialize and Finalize that touch storage, and of procedures that they call (7.6, 4.8, 5.2, 6.4, 13.11.2): they allocate, move, follow and free
 -- objects, also some with controlled parts, which are initialized by default, assign records, and declare variables, which may be given
--- what they allocate, and record objects: by default, or with an initial value for which no Adjust is called. S10 refuses a Finalize that allocates.
+-- what they allocate, and record objects: by default, or with an initial value, if no Adjust is called for that, or none of the program tracks. S10 refuses a
+-- Finalize that allocates.
 
 use Rattle.std.specs.Prelude.{ℕ, Bool, true, false, not, ◌&&◌, ◌||◌, ◌==◌, if◌then◌else◌, List, [], ◌∷◌, ◌++◌, map, Option, Some, None, is_some}
 use Rattle.std.specs.List.{list_all, slice_index_or}
@@ -9,18 +10,19 @@ use Rattle.ada_program.specs.Form.{RecordPathForm, ItemForm, RightForm, nothing,
 use Rattle.ada_program.specs.declared.program.ProcedureNo.{ProcedureNo}
 use Rattle.ada_program.specs.ProgramForm.{TypeForm, BodyForm, ProgramForm}
 use Rattle.ada_program.specs.WellFormed.{finalization_of, object_named}
-use Rattle.ada_quiet.specs.Apart.{is_bare_item}
+use Rattle.ada_quiet.specs.Apart.{is_bare_item, leave_access}
 use Rattle.ada_quiet.specs.Bare.{has_bare_objects}
 use Rattle.ada_quiet.specs.Calm.{is_known_calm, unadjusted_types, unfinalized_types}
 use Rattle.ada_quiet.specs.Idle.{holds_parts}
 
 -- What frugal bodies go by: the types of the program; of each record type with controlled parts, by its number among these, whether it overrides no Adjust, and
--- whether it overrides no Finalize, neither itself nor in a part of it; of each procedure, by its number, whether its body is frugal where it is called (6.4);
--- and whether the body is that of an operation (7.6).
+-- whether it overrides no Finalize, neither itself nor in a part of it; whether no Adjust of the program tracks; of each procedure, by its number, whether its
+-- body is frugal where it is called (6.4); and whether the body is that of an operation (7.6).
 pub record Thrift : Type 0 where
   pub types : List TypeForm
   pub unadjusted : List Bool
   pub unfinalized : List Bool
+  pub untracked : Bool
   pub procedures : List Bool
   pub operation : Bool
 
@@ -49,6 +51,10 @@ is_unadjusted_named thrift (Some t) = is_unadjusted thrift t
 abbrev pub is_unadjusted_initial : Thrift → (object_type : ℕ) → Bool
 is_unadjusted_initial thrift t = is_unadjusted_named thrift (object_named thrift.types (Some t))
 
+-- So it may, whatever Adjust is called for it, where none tracks: that is in use as an Initialize is that is called for an object without one (7.6).
+abbrev pub is_copied_initial : Thrift → (object_type : ℕ) → Bool
+is_copied_initial thrift t = thrift.untracked || is_unadjusted_initial thrift t
+
 -- It is known of a record type that nothing is called as a value ends to which another record is assigned (5.2, 7.6).
 abbrev pub is_unfinalized : Thrift → (record_type : ℕ) → Bool
 is_unfinalized thrift t = is_known_calm thrift.unfinalized (finalization_of thrift.types t)
@@ -60,7 +66,7 @@ is_frugal_declaration thrift (creates_pool p) = false
 is_frugal_declaration thrift (collects access) = false
 is_frugal_declaration thrift (declares x right) = allocates_frugally thrift right
 is_frugal_declaration thrift (declares_record x t None) = true
-is_frugal_declaration thrift (declares_record x t (Some items)) = is_bare_initial thrift.types t items || is_unadjusted_initial thrift t
+is_frugal_declaration thrift (declares_record x t (Some items)) = is_bare_initial thrift.types t items || is_copied_initial thrift t
 
 -- So is each of these.
 abbrev pub are_frugal_declarations : Thrift → List DeclarationForm → Bool
@@ -121,6 +127,7 @@ called_by types frugal = record {
   types = types;
   unadjusted = unadjusted_types types;
   unfinalized = unfinalized_types types;
+  untracked = leave_access types;
   procedures = frugal;
   operation = false;
 }
@@ -140,6 +147,7 @@ thrift_of p = record {
   types = p.types;
   unadjusted = unadjusted_types p.types;
   unfinalized = unfinalized_types p.types;
+  untracked = leave_access p.types;
   procedures = frugal_procedures p;
   operation = true;
 }

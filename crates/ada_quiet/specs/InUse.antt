@@ -11,7 +11,7 @@ use Rattle.ada_program.specs.WellFormed.{finalization_in, components_within, is_
 use Rattle.ada_quiet.specs.Quiet.{is_quiet_operation, is_plain_operation, has_access, operation_body}
 use Rattle.ada_quiet.specs.Frugal.{is_frugal_operation}
 use Rattle.ada_quiet.specs.Simple.{is_simple_operation}
-use Rattle.ada_quiet.specs.Apart.{operations_stand_apart}
+use Rattle.ada_quiet.specs.Apart.{leave_access, operations_stand_apart}
 use Rattle.ada_quiet.specs.Idle.{makes_parts, copies_parts}
 
 -- An Initialize and a Finalize may be frugal in a program in which operations stand apart: so an Initialize is called where an object is declared or allocated
@@ -80,14 +80,9 @@ operations_stand_in_order p = operations_stand_apart p && list_all (is_copied_in
 abbrev pub adjusts_nothing : ProgramForm → Bool
 adjusts_nothing p = not (copies_parts p) && operations_stand_in_order p
 
--- A type that declares a component of an access type directly overrides no Adjust (3.10, 7.6).
-abbrev pub leaves_access : TypeForm → Option Finalization → Bool
-leaves_access t None = true
-leaves_access t (Some f) = not (has_access (Some t)) || is_inherited f.operations.adjust
-
--- So it is with each type: no Adjust tracks, and a record that is copied has no component of an access type, at any depth.
+-- No Adjust of a program tracks.
 abbrev pub tracks_nothing : ProgramForm → Bool
-tracks_nothing p = list_all (λ t. leaves_access t (finalization_in (Some t))) p.types
+tracks_nothing p = leave_access p.types
 
 -- An Adjust may be frugal in a program in which an Initialize and a Finalize may be, and no Adjust tracks.
 abbrev pub may_adjust_frugally : ProgramForm → Bool

@@ -12,13 +12,14 @@ use Rattle.ada_quiet.specs.Frugal.{Thrift}
 abbrev pub is_marked : (marks : List Bool) → (number : ℕ) → Bool
 is_marked marks number = slice_index_or marks number false
 
--- What frugal bodies go by, as the code holds it: the types, which record types override no Adjust and no Finalize, which procedures have frugal bodies where
--- they are called, and whether the body is that of an operation.
+-- What frugal bodies go by, as the code holds it: the types, which record types override no Adjust and no Finalize, whether no Adjust tracks, which procedures
+-- have frugal bodies where they are called, and whether the body is that of an operation.
 abbrev pub thrift_in : HeldThrift → Thrift
 thrift_in held = record {
   types = types_in held.types.now;
   unadjusted = held.unadjusted.now;
   unfinalized = held.unfinalized.now;
+  untracked = held.untracked;
   procedures = held.procedures.now;
   operation = held.operation;
 }

@@ -1,12 +1,13 @@
 //! Declarations, statements and bodies, where they are frugal: they allocate, move, follow and free objects (4.8, 13.11.2), assign records
 //! without controlled parts, and in operations others that lie at hand (5.2), call procedures with frugal bodies alone (6.4), and
 //! declare variables, and record objects. What has controlled parts of these objects is initialized by default, or is a copy for which no
-//! Adjust is called (3.3.1, 7.6); and of what they allocate, by default.
+//! Adjust is called, unless none tracks in the program (3.3.1, 7.6); and of what they allocate, by default.
 
 ghost use Rattle.std.specs.Prelude.{◌≡◌, ◌&&◌, false, [], map, slice_index_or, IfOk};
 ghost use Rattle.ada_program.specs.Form.{StmtsForm, assigns_record, branches_form, declaration_form, handlers_form, initial_form, item_form, record_path_form, right_form, stmt_form, stmts_form};
 ghost use Rattle.ada_program.specs.Kept.{types_in};
 ghost use Rattle.ada_program.specs.ProgramForm.{body_form, program_form};
+ghost use Rattle.ada_quiet.specs.Apart as apart;
 ghost use Rattle.ada_quiet.specs.Calm as calm;
 ghost use Rattle.ada_quiet.specs.Frugal as rules;
 ghost use Rattle.ada_quiet.specs.Known.{thrift_in};
@@ -15,6 +16,7 @@ use crate::apart::are_bare_items;
 use crate::bare::has_bare_objects;
 use crate::calm::{inheriting_types, is_known_calm};
 use crate::idle::holds_parts;
+use crate::tracking::leave_access;
 use ada_effects::record_path_raises;
 use ada_program::parts::finalization_of;
 use ada_program::program::{
@@ -33,6 +35,8 @@ struct Thrift<'a> {
     unadjusted: &'a [bool],
     /// And whether it overrides no Finalize so.
     unfinalized: &'a [bool],
+    /// Whether no Adjust of the program tracks.
+    untracked: bool,
     /// Of each procedure that is known, by its number, whether its body is frugal where it is called.
     procedures: &'a [bool],
     /// Whether the body is that of an operation (7.6).
@@ -90,6 +94,13 @@ fn is_unadjusted_initial(thrift: Thrift<'_>, object: TypeNo) -> bool
     }
 }
 
+/// Whether a record object may get an initial value: no Adjust tracks, or nothing is called as it is adjusted (3.3.1, 7.6).
+fn is_copied_initial(thrift: Thrift<'_>, object: TypeNo) -> bool
+    ensures { result ≡ rules.is_copied_initial (thrift_in thrift.entry) object.0 }
+{
+    thrift.untracked || is_unadjusted_initial(thrift, object)
+}
+
 /// Whether a declaration is that of a variable, and so it is with what that is given at first (3.3.1), or that of a record object that is
 /// initialized by default, or may get its initial value.
 fn is_frugal_declaration(thrift: Thrift<'_>, declaration: &Declaration) -> bool
@@ -110,7 +121,7 @@ fn is_frugal_declaration(thrift: Thrift<'_>, declaration: &Declaration) -> bool
             object,
             initial: Some(items),
         } => is_bare_initial(thrift.types, *object, items)
-            || is_unadjusted_initial(thrift, *object),
+            || is_copied_initial(thrift, *object),
         Declaration::Pool(_) | Declaration::Collection(_) => false,
     }
 }
@@ -270,7 +281,7 @@ fn is_frugal_body(thrift: Thrift<'_>, procedure: &Procedure) -> bool
 }
 
 /// Of each procedure, by its number, whether its body is frugal where it is called, where these types override no Adjust, and these no
-/// Finalize: it calls those before it. Linear in the bodies.
+/// Finalize, and no Adjust tracks, or some may: it calls those before it. Linear in the bodies.
 ///
 /// # Errors
 /// `AllocError` where memory was refused.
@@ -279,9 +290,11 @@ fn frugal_by(
     program: &Program,
     unadjusted: &[bool],
     unfinalized: &[bool],
+    untracked: bool,
 ) -> Result<Vec<bool>, AllocError>
     requires adjusted { unadjusted.now ≡ calm.unadjusted_types (program_form program.now).types }
     requires finalized { unfinalized.now ≡ calm.unfinalized_types (program_form program.now).types }
+    requires tracked { untracked ≡ apart.leave_access (program_form program.now).types }
     ensures { IfOk result (λ frugal. frugal.items
         ≡ rules.frugal_from (program_form program.now).types [] (program_form program.now).bodies) }
 {
@@ -291,6 +304,7 @@ fn frugal_by(
             types: &program.types,
             unadjusted,
             unfinalized,
+            untracked,
             procedures: &frugal,
             operation: false,
         };
@@ -329,11 +343,13 @@ pub(crate) fn frugal_operations(alloc: Global, program: &Program) -> Result<Vec<
 {
     let unadjusted = inheriting_types(alloc, false, &program.types)?;
     let unfinalized = inheriting_types(alloc, true, &program.types)?;
-    let procedures = frugal_by(alloc, program, &unadjusted, &unfinalized)?;
+    let untracked = leave_access(&program.types);
+    let procedures = frugal_by(alloc, program, &unadjusted, &unfinalized, untracked)?;
     let thrift = Thrift {
         types: &program.types,
         unadjusted: &unadjusted,
         unfinalized: &unfinalized,
+        untracked,
         procedures: &procedures,
         operation: true,
     };

@@ -8,6 +8,7 @@ ghost use Rattle.std.specs.Option.{option_copied};
 ghost use Rattle.ada_program.specs.Kept.{types_in};
 ghost use Rattle.ada_program.specs.ProgramForm.{part_form, program_form, type_form};
 ghost use Rattle.ada_program.specs.WellFormed as fits;
+ghost use Rattle.ada_quiet.specs.Apart as apart;
 ghost use Rattle.ada_quiet.specs.InUse as rules;
 
 use crate::operations::{finalization_in, has_own_access};
@@ -161,7 +162,7 @@ pub(crate) fn adjusts_alone(program: &Program) -> bool
 
 /// Whether a type that declares a component of an access type directly overrides no Adjust (3.10, 7.6).
 fn leaves_access(definition: &TypeDefinition) -> bool
-    ensures { let t = type_form definition.now in result ≡ rules.leaves_access t (fits.finalization_in (Some t)) }
+    ensures { let t = type_form definition.now in result ≡ apart.leaves_access t (fits.finalization_in (Some t)) }
 {
     match finalization_in(definition) {
         None => true,
@@ -171,14 +172,21 @@ fn leaves_access(definition: &TypeDefinition) -> bool
     }
 }
 
-/// Whether that is so with each type of a program, so that no Adjust tracks. Linear in the types and their components.
-pub(crate) fn tracks_nothing(program: &Program) -> bool
-    ensures { result ≡ rules.tracks_nothing (program_form program.now) }
+/// Whether that is so with each of these types, so that no Adjust tracks. Linear in the types and their components.
+pub(crate) fn leave_access(types: &[TypeDefinition]) -> bool
+    ensures { result ≡ apart.leave_access (types_in types.now) }
 {
-    'types: for definition in &program.types {
+    'types: for definition in types {
         if !leaves_access(definition) {
             return false;
         }
     }
     true
+}
+
+/// Whether no Adjust of a program tracks. Linear in the types and their components.
+pub(crate) fn tracks_nothing(program: &Program) -> bool
+    ensures { result ≡ rules.tracks_nothing (program_form program.now) }
+{
+    leave_access(&program.types)
 }

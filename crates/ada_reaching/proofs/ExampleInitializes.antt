@@ -145,7 +145,7 @@ both_apart shunned one other = record {
     initializes = λ access of part number starts begun overrides. ap beside.calls (overrides_third of number overrides);
     undoes = λ access of part number starts begun overrides. absurd (finalizes_none of number overrides);
     overwrites = λ record_type of part number tasks assigned left said. absurd (cc assigned);
-    copies_quietly = λ record_type of part tasks copied left. absurd (cc copied);
+    adjusts = λ record_type of part number tasks copied left overrides. absurd (cc copied);
   };
 }
 

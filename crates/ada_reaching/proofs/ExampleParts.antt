@@ -186,7 +186,7 @@ calls_first p definitions own own_is shunned does = record {
     initializes = λ access of part number starts begun overrides. absurd (cc starts);
     undoes = λ access of part number starts begun overrides. absurd (cc starts);
     overwrites = λ record_type of part number tasks assigned left said. absurd (cc assigned);
-    copies_quietly = λ record_type of part tasks copied left. absurd (cc copied);
+    adjusts = λ record_type of part number tasks copied left overrides. absurd (cc copied);
   };
 }
 

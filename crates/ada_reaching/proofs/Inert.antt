@@ -47,7 +47,7 @@ module _ (P : ℕ → Type 0) where
   EachOf (c ∷ cs) = P c.of × EachOf cs
 
   -- and of all that is left of a treatment.
-  abbrev EachIn : List Task → Type 0
+  abbrev pub EachIn : List Task → Type 0
   EachIn [] = Unit {0}
   EachIn (performs of part ∷ tasks) = P of × EachIn tasks
   EachIn (treats cs ∷ tasks) = EachOf cs × EachIn tasks
@@ -129,7 +129,7 @@ module _ (P : ℕ → Type 0) where
 
   -- It holds of the components of a record type that have controlled parts, where it does of the types of those that are declared.
   module _ (types : List TypeDefinition) where
-    abbrev HoldsIn : List Part → Type 0
+    abbrev pub HoldsIn : List Part → Type 0
     HoldsIn qs =
         (i : ℕ) (q : Part) (v : TypeNo) (m : ℕ) → slice_get qs i ≡ Some q → q.kind ≡ kinds.Record v → number_of types (Some v.0) ≡ Some m → P m
 
@@ -166,6 +166,24 @@ module _ (P : ℕ → Type 0) where
             subst (λ (k : ℕ). Each (components_with_parts types (shapes_up_to types count) (parts_by (type_numbered types k)))) same
             (each_declared (shapes_up_to types count) (parts_by (type_numbered types n)) holds)
         by false is later = later
+
+-- What holds of the types of declared components, where it does of that of the record, holds of all that is left of the treatment of a record of a type of which it
+-- holds (7.6).
+module _ (types : List TypeDefinition) (P : ℕ → Type 0) (inner : (n : ℕ) → P n → HoldsIn P types (parts_by (type_numbered types n))) where
+  each_component : (n : ℕ) → P n → Each P (shape_of (shapes_of types) n).components
+  each_component n h = each_shape P types n (inner n h) (count_by has_parts types)
+
+  pub left_each :
+      (direction : Direction) (t : ℕ) → ((n : ℕ) → number_of types (Some t) ≡ Some n → P n) → {tasks : List Task} → IsLeftIn types direction t tasks
+      → EachIn P tasks
+  left_each direction t whole (whole_in first) = by (number_of types (Some t)) refl
+    where
+      by : (o : Option ℕ) → number_of types (Some t) ≡ o → EachIn P (tasks_in (shapes_of types) direction o first)
+      by None numbered = tt
+      by (Some n) numbered = in_opened P (shapes_of types) each_component direction n first (whole n numbered)
+  left_each direction t whole (picked_in {tasks = tasks} i left) =
+      in_picked P (shapes_of types) each_component direction tasks i (left_each direction t whole left)
+  left_each direction t whole (called_in {tasks = tasks} left) = in_performed P tasks (left_each direction t whole left)
 
 -- No procedure is that of an operation that is inherited.
 none_called : (o : Option ProcedureNo) → is_inherited o ≡ true → procedure_number o ≡ None
@@ -237,20 +255,10 @@ module _ (finalize : Bool) (program : Program) (well : IsWellFormed (program_for
       (walks_on forms t (part_form q).first (part_form q).part v.0 first part u step walks) there) in
       (v.0, number, subst (λ (o : Option Finalization). is_known_calm (inheriting_types finalize forms) o ≡ true) (sym found) told))
 
-  inert_components : (n : ℕ) → HasInert n → Each HasInert (shape_of (shapes_of types) n).components
-  inert_components n inert = each_shape HasInert types n (inert_parts n inert) (count_by has_parts types)
-
   -- So it is with whatever is left of the treatment of a record of such a type.
   left_inert :
       (direction : Direction) (t : ℕ) → IsInert t → {tasks : List Task} → IsLeftIn types direction t tasks → EachIn HasInert tasks
-  left_inert direction t inert (whole_in first) = by (number_of types (Some t)) refl
-    where
-      by : (o : Option ℕ) → number_of types (Some t) ≡ o → EachIn HasInert (tasks_in (shapes_of types) direction o first)
-      by None numbered = tt
-      by (Some n) numbered = in_opened HasInert (shapes_of types) inert_components direction n first (t, numbered, inert)
-  left_inert direction t inert (picked_in {tasks = tasks} i left) =
-      in_picked HasInert (shapes_of types) inert_components direction tasks i (left_inert direction t inert left)
-  left_inert direction t inert (called_in {tasks = tasks} left) = in_performed HasInert tasks (left_inert direction t inert left)
+  left_inert direction t inert left = left_each types HasInert inert_parts direction t (λ n numbered. (t, numbered, inert)) left
 
 -- No Adjust is called for a part of a record of such a type that is adjusted,
 pub unadjusted_calls_nothing :

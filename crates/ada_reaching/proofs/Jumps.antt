@@ -1,6 +1,6 @@
 -- Jumps in a body that shuns some access types, and each of its steps.
 
-use Rattle.std.proofs.Common.{◌≡◌, ℕ, Bool, true, false, List, [], ◌∷◌, map, Some, refl, sym, inl, inr, subst}
+use Rattle.std.proofs.Common.{◌≡◌, ℕ, Bool, true, false, List, [], ◌∷◌, map, Some, refl, sym, ◌⊎◌, inl, inr, subst}
 use Rattle.std.specs.Prelude.{if◌then◌else◌}
 use Rattle.std.proofs.lemmas.Bool.{and_parts}
 use Rattle.ada_program.specs.declared.program.Exception.{Exception}
@@ -9,6 +9,7 @@ use Rattle.ada_program.specs.Form.{ActualForm, HandlersForm, no_handlers, a_hand
 use Rattle.ada_program.specs.Handling.{some_takes, handler_of}
 use Rattle.ada_program.specs.ProgramForm.{TypeForm, VariableForm, type_form}
 use Rattle.ada_parts.specs.Part.{Part}
+use Rattle.ada_parts.specs.Task.{Task}
 use Rattle.ada_meaning.specs.declared.event.Birth.{Birth}
 use Rattle.ada_meaning.specs.declared.event.Birth.TheVariants.{Creation, Copy, Adjustment}
 use Rattle.ada_meaning.specs.declared.state.Mode.{Mode}
@@ -21,7 +22,7 @@ use Rattle.ada_meaning.specs.Step.{operands, broken_next, broken_off, landed, un
 use Rattle.ada_meaning.specs.Named.{Object, State, named, look, next}
 use Rattle.ada_untouched.specs.Untouched.{IsInSight}
 use Rattle.ada_reaching.specs.Apart.{AreBegunIn}
-use Rattle.ada_reaching.specs.Reaching.{FrameShuns, InMasters, IsLast, MayJump, begins_anew, is_leaving, references_at}
+use Rattle.ada_reaching.specs.Reaching.{FrameShuns, InMasters, IsAdjusting, IsLast, MayJump, begins_anew, is_leaving, references_at}
 use Rattle.ada_reaching.specs.Forms.{statements_shun, handlers_shun}
 use Rattle.ada_reaching.specs.Law.{AreApart, FirstHousesIts, AllGoOn}
 use Rattle.ada_reaching.proofs.Going.{World, variables_in, Runs, LeftIn, Left, On, Goes, OperandsSeek, may_jump, reaches, runs_on, stays}
@@ -49,16 +50,21 @@ module _ (w : World) where
   abbrev OneShuns : Frame Value → Type 0
   OneShuns f = FrameShuns w.p.types w.shuns w.apart w.p.bodies w.ghosts (variables_in w) f
 
-  -- A jump lands in statements that shun the types, if it lands in any, or comes out of an operation that begins a part of what may be allocated (7.6).
+  -- A jump lands in statements that shun the types, if it lands in any, or comes out of an operation that begins a part of what may be allocated, or
+  -- out of an Adjust (7.6).
   abbrev pub LandsShunning : Landing Value → Type 0
   LandsShunning (goes_in fs) = statements_shun w.p.types w.shuns w.apart (variables_in w) fs ≡ true
   LandsShunning (breaks_off v by done) =
-      IsInSight w.ghosts v × (access : ℕ) × (w.apart.starts access ≡ true) × AreBegunIn w.apart.definitions access done
+      IsInSight w.ghosts v × (((access : ℕ) × (w.apart.starts access ≡ true) × AreBegunIn w.apart.definitions access done) ⊎ IsAdjusting by)
   LandsShunning l = Unit {0}
 
   -- A jump comes out of such an operation alone.
+  waiting_lands : (v : Value) (by : Birth) (done : List Part) (of part : ℕ) (tasks : List Task) → OneShuns (frame.Awaits v by done of part tasks) → LandsShunning (breaks_off v by done)
+  waiting_lands v by done of part tasks (sight, inl starting) = (sight, inl (starting.starts.access, starting.starts.may, starting.starts.begun))
+  waiting_lands v by done of part tasks (sight, inr adjusting) = (sight, inr adjusting.0)
+
   operation_lands : (f : Frame Value) → OneShuns f → LandsShunning (operation_landing f)
-  operation_lands (frame.Awaits v by done of part tasks) shun = (shun.0, shun.1.starts.access, shun.1.starts.may, shun.1.starts.begun)
+  operation_lands (frame.Awaits v by done of part tasks) shun = waiting_lands v by done of part tasks shun
   operation_lands f shun = tt
 
   -- A jump lands behind a frame, or where it would land else.
@@ -84,7 +90,7 @@ module _ (w : World) where
   -- An exception lands in statements that shun the types, if it lands in any.
   exception_lands : (e : Exception) (f : Frame Value) → OneShuns f → LandsShunning (exception_landing e f)
   exception_lands e (frame.Handles hs) shun = handler_lands e hs shun
-  exception_lands e (frame.Awaits v by done of part tasks) shun = (shun.0, shun.1.starts.access, shun.1.starts.may, shun.1.starts.begun)
+  exception_lands e (frame.Awaits v by done of part tasks) shun = waiting_lands v by done of part tasks shun
   exception_lands e f shun = tt
 
   -- So it is with a jump in any mode.
@@ -105,7 +111,8 @@ module _ (w : World) where
   broken_goes :
       (e : Exception) (v : Value) (by : Birth) (done : List Part) (s : State) → LandsShunning (breaks_off v by done)
       → Goes w s (broken_next named e v by done s)
-  broken_goes e v Creation done s shuns r h anew = undone_goes w e v shuns.1 done (look s.heap v) s shuns.0 shuns.2 shuns.3 r h anew
+  broken_goes e v Creation done s (sight, inl starting) r h anew = undone_goes w e v starting.0 done (look s.heap v) s sight starting.1 starting.2 r h anew
+  broken_goes e v Creation done s (sight, inr adjusting) r h anew = absurd adjusting
   broken_goes e v Copy done s shuns r h anew = tt
   broken_goes e v (Adjustment number) done s shuns r h anew = tt
 

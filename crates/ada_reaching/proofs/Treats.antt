@@ -1,6 +1,6 @@
 -- What is finalized of what a body frees or has declared that shuns some access types (7.6.1, 13.11.2), and initialized of what it allocates or declares (7.6,
--- 4.8, 3.3.1): the operations of such objects have bodies that shun them, too. And where such a body assigns to a record with controlled parts as a whole (5.2),
--- nothing is called.
+-- 4.8, 3.3.1): the operations of such objects have bodies that shun them, too, and so has an Adjust of what gets its value from another record. And where such a
+-- body assigns to a record with controlled parts as a whole (5.2), no Finalize is called.
 
 use Rattle.std.proofs.Common.{◌≡◌, ℕ, Bool, true, false, if◌then◌else◌, List, [], ◌∷◌, length, map, Option, Some, None, refl, subst, inl, inr, ◌⊎◌}
 use Rattle.std.specs.Prelude.{◌==◌}
@@ -193,13 +193,14 @@ module _ (w : World) where
   begun_apart :
       (by : Birth) (done : List parts.Part) (of part : ℕ) (tasks : List Task) → AwaitsApart w.apart by done of part tasks
       → TreatsApart w.apart (begins by (record { of = of; number = part } ∷ done)) tasks
-  begun_apart by done of part tasks left = inl (record {
-    access = left.starts.access;
-    may = left.starts.may;
-    created = left.starts.created;
-    left = left.starts.left;
-    begun = (left.begins, left.starts.begun);
+  begun_apart by done of part tasks (inl starting) = inl (record {
+    access = starting.starts.access;
+    may = starting.starts.may;
+    created = starting.starts.created;
+    left = starting.starts.left;
+    begun = (starting.begins, starting.starts.begun);
   })
+  begun_apart by done of part tasks (inr adjusting) = inr adjusting
 
   -- So they do once the operation has ended that begins it.
   pub awaited_goes :
@@ -305,10 +306,10 @@ module _ (w : World) where
   starts_called :
       (by : Birth) (done : List parts.Part) (of part : ℕ) (tasks : List Task) → StartsApart w.apart by done (performs of part ∷ tasks)
       → AwaitsApart w.apart by done of part tasks
-  starts_called by done of part tasks left = record {
+  starts_called by done of part tasks left = inl (record {
     starts = record { access = left.access; may = left.may; created = left.created; left = called left.left; begun = left.begun };
     begins = (tasks, left.left);
-  }
+  })
 
   module _ (tds : List TypeDefinition) (are_apart : AreApart w.p tds w.shuns w.apart) where
     -- A Finalize that is called then shuns the types.
@@ -330,7 +331,7 @@ module _ (w : World) where
         (subst (λ (ts : List TypeDefinition). IsBegunIn ts left.access of part) are_apart.own (tasks, left.left))
         (subst (λ (b : Birth). beginning b (operations_of tds of) ≡ Some number) left.created is)
 
-    -- The bodies go on as the Initialize of a part is called, or nothing is, where its type overrides none (7.6).
+    -- The bodies go on as the Initialize or the Adjust of a part is called, or nothing is, where its type overrides none (7.6).
     begun_goes :
         (v : Value) (by : Birth) (done : List parts.Part) (of part : ℕ) (tasks : List Task) (operation : Option ℕ) (found : Option PartState)
         (cell : Cell Value) (s : State) → look s.heap v ≡ finds cell → ((number : ℕ) → operation ≡ Some number → w.apart.calls number ≡ true) → IsInSight w.ghosts v
@@ -394,19 +395,20 @@ module _ (w : World) where
         valued_goes state.alive v part state (treating v (ends cause) tasks s.control) operation (Finalized v part state.turn of state.number cause) s each
         (part_elsewhere w.ghosts w.unnamed s.heap v (record { component = state.first; part = part }) cell there sight) sight running r behind.0 behind.1
 
-    -- Nothing is called where a record is adjusted of a type that overrides no Adjust.
-    nothing_begins : (by : Birth) (operations : Operations) → IsAdjusting by → procedure_number operations.adjust ≡ None → beginning by operations ≡ None
-    nothing_begins Creation operations adjusting none = absurd adjusting
-    nothing_begins Copy operations adjusting none = none
-    nothing_begins (Adjustment number) operations adjusting none = none
+    -- What is called where a record is adjusted is an Adjust,
+    adjust_called : (by : Birth) (operations : Operations) (number : ℕ) → IsAdjusting by → beginning by operations ≡ Some number → procedure_number operations.adjust ≡ Some number
+    adjust_called Creation operations number adjusting is = absurd adjusting
+    adjust_called Copy operations number adjusting is = is
+    adjust_called (Adjustment turn) operations number adjusting is = is
 
-    -- So it is with a part of a record that gets its value from another one.
-    copied_calls :
-        (of part : ℕ) (tasks : List Task) → AssignsApart w.apart PartsFirst (performs of part ∷ tasks)
-        → procedure_number (operations_of tds of).adjust ≡ None
-    copied_calls of part tasks left =
-        are_apart.operations.copies_quietly left.record_type of part tasks left.may
+    -- which shuns the types, where that is a part of a record that gets its value from another one.
+    adjust_apart :
+        (by : Birth) (of part number : ℕ) (tasks : List Task) → IsAdjusting by → AssignsApart w.apart PartsFirst (performs of part ∷ tasks)
+        → beginning by (operations_of tds of) ≡ Some number → w.apart.calls number ≡ true
+    adjust_apart by of part number tasks adjusting left is =
+        are_apart.operations.adjusts left.record_type of part number tasks left.may
         (subst (λ (ts : List TypeDefinition). IsLeftIn ts PartsFirst left.record_type (performs of part ∷ tasks)) are_apart.own left.left)
+        (adjust_called by (operations_of tds of) number adjusting is)
 
     -- Where one ends to which another one is assigned, the Finalize that is called shuns the types.
     assigned_calls :
@@ -420,15 +422,6 @@ module _ (w : World) where
     assigned_called :
         (direction : Direction) (of part : ℕ) (tasks : List Task) → AssignsApart w.apart direction (performs of part ∷ tasks) → AssignsApart w.apart direction tasks
     assigned_called direction of part tasks left = record { record_type = left.record_type; may = left.may; left = called_in left.left }
-
-    -- The bodies go on as a part of a record that is assigned to is adjusted: nothing is called.
-    unadjusted_goes :
-        (v : Value) (by : Birth) (done : List parts.Part) (of part : ℕ) (tasks : List Task) (operation : Option ℕ) (found : Option PartState) (s : State)
-        → operation ≡ None → IsInSight w.ghosts v → TreatsApart w.apart (begins by (record { of = of; number = part } ∷ done)) tasks
-        → Goes w s (begun_next named w.p.bodies v by done of part tasks operation found s)
-    unadjusted_goes v by done of part tasks operation None s none sight left r h anew = tt
-    unadjusted_goes v by done of part tasks None (Some state) s none sight left r h anew = born_goes v by done of part tasks (Some state) s sight left r h anew
-    unadjusted_goes v by done of part tasks (Some procedure) (Some state) s none sight left r h anew = absurd (cc)
 
     -- So they do as an operation is called, by what is found of the object.
     performed_goes :
@@ -444,8 +437,8 @@ module _ (w : World) where
         begun_goes v by done of part tasks (beginning by (operations_of tds of)) (slice_get cell.parts part) cell s is
         (λ number called_so. initialize_apart by done of part number tasks left called_so) sight (starts_called by done of part tasks left) r h front
     performed_goes v (begins by done) of part tasks (finds cell) s other is sight (inr (adjusting, left)) running r h front =
-        unadjusted_goes v by done of part tasks (beginning by (operations_of tds of)) (slice_get cell.parts part) s
-        (nothing_begins by (operations_of tds of) adjusting (copied_calls of part tasks left)) sight
+        begun_goes v by done of part tasks (beginning by (operations_of tds of)) (slice_get cell.parts part) cell s is
+        (λ number called_so. adjust_apart by of part number tasks adjusting left called_so) sight
         (inr (adjusting, assigned_called PartsFirst of part tasks left)) r h front
     performed_goes v (ends cause) of part tasks (finds cell) s other is sight left running r h front =
         let ending = apart_ending cause (performs of part ∷ tasks) other left in

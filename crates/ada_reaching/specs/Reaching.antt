@@ -166,10 +166,14 @@ TreatsApart apart (begins by done) tasks = StartsApart apart by done tasks ⊎ (
 TreatsApart apart (ends (Assigning number)) tasks = AssignsApart apart WholeFirst tasks
 TreatsApart apart (ends cause) tasks = EndsApart apart tasks
 
--- The operation runs that begins a part of such an object, behind which this is left.
-pub record AwaitsApart (apart : Apart) (by : Birth) (done : List parts.Part) (of part : ℕ) (tasks : List Task) : Type 0 where
+-- The Initialize runs of a part of such an object, behind which this is left.
+pub record StartsPart (apart : Apart) (by : Birth) (done : List parts.Part) (of part : ℕ) (tasks : List Task) : Type 0 where
   pub starts : StartsApart apart by done tasks
   pub begins : IsBegunIn apart.definitions starts.access of part
+
+-- The operation runs that begins a part of such an object, or the Adjust of a part of such a record.
+abbrev pub AwaitsApart : Apart → Birth → (done : List parts.Part) → (of part : ℕ) → (tasks : List Task) → Type 0
+AwaitsApart apart by done of part tasks = StartsPart apart by done of part tasks ⊎ (IsAdjusting by × AssignsApart apart PartsFirst tasks)
 
 -- What a frame holds of a body with these variables shuns the types, and names no ghost where it stores, clears, begins, finalizes, ends or gives back. What is
 -- assigned to has no controlled parts, unless it may be assigned to so, and neither has what is created, unless such objects may be.

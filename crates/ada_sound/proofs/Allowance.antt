@@ -9,18 +9,19 @@ use Rattle.ada_effects.specs.Effects.{record_path_raises}
 use Rattle.ada_program.specs.Form.{RecordPathForm, ItemForm, RightForm, nothing, value_of, allocates, allocates_default, computes, DeclarationForm, creates_pool, collects, declares, declares_record, StmtForm, skips, assigns, assigns_record, frees, gets, writes, writes_text, chooses, repeats, counts, exits, calls, returns, raises, encloses, StmtsForm, no_stmts, a_stmt, BranchesForm, otherwise, a_branch, HandlersForm, no_handlers, a_handler}
 use Rattle.ada_program.specs.ProgramForm.{TypeForm, BodyForm, ProgramForm}
 use Rattle.ada_program.specs.WellFormed.{finalization_of, object_named}
-use Rattle.ada_quiet.specs.Apart.{is_bare_item}
+use Rattle.ada_quiet.specs.Apart.{is_bare_item, leave_access}
 use Rattle.ada_quiet.specs.Bare.{has_bare_objects}
 use Rattle.ada_quiet.specs.Calm.{is_known_calm, unadjusted_types, unfinalized_types}
 use Rattle.ada_quiet.specs.Idle.{holds_parts}
-use Rattle.ada_quiet.specs.Frugal.{allocates_frugally, is_bare_initial, is_unadjusted_named as frugal_named, is_unadjusted_initial, is_frugal_declaration, are_frugal_declarations, frugal_procedures, is_frugal_stmt, are_frugal, are_frugal_branches, are_frugal_handlers, is_frugal_body, Thrift, assigns_at_hand, thrift_of}
+use Rattle.ada_quiet.specs.Frugal.{allocates_frugally, is_bare_initial, is_copied_initial, is_unadjusted_named as frugal_named, is_unadjusted_initial, is_frugal_declaration, are_frugal_declarations, frugal_procedures, is_frugal_stmt, are_frugal, are_frugal_branches, are_frugal_handlers, is_frugal_body, Thrift, assigns_at_hand, thrift_of}
 
--- What such bodies go by: as frugal ones do, whether they may free objects with controlled parts, and whether they may allocate some and declare record
--- objects.
+-- What such bodies go by: as frugal ones do, also whether no Adjust tracks, whether they may free objects with controlled parts, and whether they may allocate
+-- some and declare record objects.
 pub record Allowance : Type 0 where
   pub types : List TypeForm
   pub unadjusted : List Bool
   pub unfinalized : List Bool
+  pub untracked : Bool
   pub treats_parts : Bool
   pub objects : Bool
   pub procedures : List Bool
@@ -58,12 +59,15 @@ abbrev pub is_unadjusted_named : Allowance → (record_type : Option ℕ) → Bo
 is_unadjusted_named allowance None = false
 is_unadjusted_named allowance (Some t) = is_unadjusted allowance t
 
-abbrev pub fills_parts : Allowance → (object_type : ℕ) → Bool
-fills_parts allowance t =
-    not (holds_parts allowance.types t) || (allowance.treats_parts && is_unadjusted_named allowance (object_named allowance.types (Some t)))
+-- An object of a type may be copied: no Adjust tracks, or none is called for it.
+abbrev pub copies_object : Allowance → (object_type : ℕ) → Bool
+copies_object allowance t = allowance.untracked || is_unadjusted_named allowance (object_named allowance.types (Some t))
 
--- Or declare a record object with an initial value (3.3.1): one without controlled parts, where it may declare some, or one for which no Adjust is
--- called, where it may treat parts.
+abbrev pub fills_parts : Allowance → (object_type : ℕ) → Bool
+fills_parts allowance t = not (holds_parts allowance.types t) || (allowance.treats_parts && copies_object allowance t)
+
+-- Or declare a record object with an initial value (3.3.1): one without controlled parts, where it may declare some, or one that may be copied, where it may
+-- treat parts.
 abbrev pub may_fill : Allowance → (object_type : ℕ) → Bool
 may_fill allowance t = allowance.objects && fills_parts allowance t
 
@@ -127,6 +131,7 @@ allowance_of p = record {
   types = p.types;
   unadjusted = unadjusted_types p.types;
   unfinalized = unfinalized_types p.types;
+  untracked = leave_access p.types;
   treats_parts = true;
   objects = true;
   procedures = frugal_procedures p;
@@ -149,13 +154,21 @@ module _ (p : ProgramForm) (own : Bool) where
   named_thrifty None is = is
   named_thrifty (Some t) is = is
 
-  initial_thrifty : (t : ℕ) (items : List ItemForm) → (is_bare_initial p.types t items || is_unadjusted_initial judged t) ≡ true → may_fill (allowance_of p) t ≡ true
+  copied_thrifty : (t : ℕ) → is_copied_initial judged t ≡ true → copies_object (allowance_of p) t ≡ true
+  copied_thrifty t is =
+      let named = is_unadjusted_named (allowance_of p) (object_named p.types (Some t)) in
+      elim (or_cases (leave_access p.types) (is_unadjusted_initial judged t) is) [
+        | inl none ↦ or_left (leave_access p.types) named none
+        | inr copied ↦ or_right (leave_access p.types) named (named_thrifty (object_named p.types (Some t)) copied)
+      ]
+
+  initial_thrifty : (t : ℕ) (items : List ItemForm) → (is_bare_initial p.types t items || is_copied_initial judged t) ≡ true → may_fill (allowance_of p) t ≡ true
   initial_thrifty t items is =
       let bare = not (holds_parts p.types t) in
-      let copied = is_unadjusted_named (allowance_of p) (object_named p.types (Some t)) in
-      elim (or_cases (is_bare_initial p.types t items) (is_unadjusted_initial judged t) is) [
+      let copied = copies_object (allowance_of p) t in
+      elim (or_cases (is_bare_initial p.types t items) (is_copied_initial judged t) is) [
         | inl bare_so ↦ or_left bare copied (and_parts bare (list_all (is_bare_item p.types) items) bare_so).0
-        | inr copied_so ↦ or_right bare copied (named_thrifty (object_named p.types (Some t)) copied_so)
+        | inr copied_so ↦ or_right bare copied (copied_thrifty t copied_so)
       ]
 
   declaration_thrifty : (d : DeclarationForm) → is_frugal_declaration judged d ≡ true → is_thrifty_declaration (allowance_of p) d ≡ true
@@ -293,4 +306,4 @@ module _ (allowance : Allowance) where
 
 -- What a body goes by that calls nothing, declares variables alone, and neither allocates nor frees an object with controlled parts.
 abbrev pub simple_allowance : List TypeForm → Allowance
-simple_allowance types = record { types = types; unadjusted = []; unfinalized = []; treats_parts = false; objects = false; procedures = [] }
+simple_allowance types = record { types = types; unadjusted = []; unfinalized = []; untracked = false; treats_parts = false; objects = false; procedures = [] }

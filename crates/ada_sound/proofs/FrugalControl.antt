@@ -2,7 +2,7 @@
 -- frees, allocates or declares: what is left before its end. Where bodies may allocate and free objects with controlled parts, these are initialized first, and
 -- finalized, also where an exception comes out of an Initialize; and where they may declare record objects, these are finalized where their master is left.
 -- The body of an operation itself may assign to records with such parts (5.2), for which no Adjust is called, and no Finalize, or which lie in an object that the
--- body declares, so that no operation of that runs.
+-- body declares, so that no operation of that runs. Copies that are declared (3.3.1) are adjusted, too; an Adjust may be called for these where none tracks.
 
 use Rattle.ada_meaning.specs.declared.state.Value.TheVariants.{Null}
 use Rattle.std.proofs.Common.{◌≡◌, ℕ, suc, ◌≤◌, Bool, true, false, ◌&&◌, List, [], ◌∷◌, ◌++◌, length, refl, sym, ap, subst, ◌⊎◌, inl, inr, arith, ◌∙◌}
@@ -59,10 +59,10 @@ IsAssigned (Freeing number) = ⊥
 IsAssigned (Assigning number) = Unit {0}
 IsAssigned (Undoing number) = ⊥
 
--- Or it is initialized, in the body of another operation that allocates or declares it (4.8, 3.3.1).
+-- Or it is initialized, in the body of another operation that allocates or declares it (4.8, 3.3.1), or adjusted as a declared copy.
 abbrev pub IsInside : Treatment → Type 0
 IsInside (begins Creation done) = Unit {0}
-IsInside (begins Copy done) = ⊥
+IsInside (begins Copy done) = Unit {0}
 IsInside (begins (Adjustment number) done) = ⊥
 IsInside (ends cause) = (IsEnded (ends cause) ⊎ IsLeft (ends cause)) ⊎ IsAssigned cause
 
@@ -268,10 +268,15 @@ EndsOperation frugal k = (frugal.treats_parts ≡ true) × NoOperationRunsOn (fi
 -- And with one of which a record is assigned to.
 abbrev pub ReplacesOperation : Allowance → Control → Type 0
 ReplacesOperation frugal k = (frugal.treats_parts ≡ true) × (replaced_in k ≡ finalized_before k) × NoOperationRunsOn (finalized_before k) k
+-- An object is created (3.3.1, 4.8), by default, or as a copy, where no Adjust tracks.
+abbrev pub IsCreated : Allowance → Birth → Type 0
+IsCreated frugal Creation = Unit {0}
+IsCreated frugal Copy = (frugal.untracked ≡ true)
+IsCreated frugal (Adjustment number) = ⊥
 
 -- A new object begins, and behind that no operation of it runs.
 abbrev pub BeginsThere : Allowance → Value → Birth → Control → Type 0
-BeginsThere frugal v by k = (by ≡ Creation) × (frugal.objects ≡ true) × NoOperationRunsOn v k
+BeginsThere frugal v by k = IsCreated frugal by × (frugal.objects ≡ true) × NoOperationRunsOn v k
 
 -- What the frugal bodies of the program go by.
 module _ (frugal : Allowance) where

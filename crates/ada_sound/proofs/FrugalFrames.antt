@@ -50,6 +50,11 @@ use Rattle.ada_sound.proofs.FrugalControl.{AreKnown, AreOwnedBy, BeginsThere, Fr
 use Rattle.ada_sound.proofs.FrugalFrees.{RecordIsBare, IsFreely, StmtIsFreely, IsNewly, LeftAlone, Unborn, past_unborn}
 use Rattle.ada_sound.proofs.Stored.{IsTaken, taken_is}
 
+-- Nothing is to be done for a record object with an initial value (3.3.1), or it is adjusted where no Adjust tracks, or where none is called (7.6).
+abbrev pub IsFilled : Allowance → List Task → Type 0
+IsFilled allowance tasks =
+    (tasks ≡ []) ⊎ ((allowance.untracked ≡ true) ⊎ ((allowance.treats_parts ≡ true) × AreKnown allowance.types allowance.unadjusted tasks))
+
 -- What bodies may create they may undo, where an exception comes out of its initialization (7.6.1).
 abbrev pub EndsCreated : Allowance → Type 0
 EndsCreated allowance = allowance.objects ≡ true → allowance.treats_parts ≡ true
@@ -194,7 +199,7 @@ module _ (frugal : Allowance) (lower : List Master) (behind : Control) (among : 
     granted_on access count words home all k (inr (may, alone)) q = record {
       upper = ms;
       masters = refl;
-      frugally = beginning_frugal frugal behind among (created s.heap words) Creation [] (all_tasks tds access PartsFirst) k ms (refl, may, alone) q;
+      frugally = beginning_frugal frugal behind among (created s.heap words) Creation [] (all_tasks tds access PartsFirst) k ms (tt, may, alone) q;
     }
       where
         cell : Cell Value
@@ -238,8 +243,8 @@ module _ (frugal : Allowance) (lower : List Master) (behind : Control) (among : 
 
     pub broken_on : EndsCreated frugal → (e : Exception) (v : Value) (by : Birth) (done : List Part) (all : List (Activation Value)) → (k : Control) → BeginsThere frugal v by k → Left k → Fine (broken_next named e v by done (jumping_in e all k ms))
     broken_on ends_created e v Creation done all k beginning q = undo_on ends_created e v Creation done (look s.heap v) all k beginning q
-    broken_on ends_created e v Copy done all k beginning q = let created = beginning.0 in absurd (cc created)
-    broken_on ends_created e v (Adjustment number) done all k beginning q = let created = beginning.0 in absurd (cc created)
+    broken_on ends_created e v Copy done all k beginning q = tt
+    broken_on ends_created e v (Adjustment number) done all k beginning q = tt
 
     assigns_on : (cs : List ℕ) (x : ℕ) (right : RightForm) → allocates_thriftily frugal right ≡ true → (all : List (Activation Value)) → (k : Control) → Left k → Fine (assign_next named cs x right (now all k ms))
     assigns_on [] x right bare all k q = on _ refl (bare, (tt, q))
@@ -579,7 +584,7 @@ module _ (frugal : Allowance) (lower : List Master) (behind : Control) (among : 
     masters = refl;
     frugally = beginning_frugal frugal behind among (created s.heap (words_of tds t)) Creation [] (all_tasks tds t PartsFirst) (Elaborates ds fs hs ∷ k)
         (record m { items = record { number = height ((m ∷ ms) ++ lower); owned = record_object t } ∷ m.items } ∷ ms)
-        (refl, thrifty, unborn thrifty (next_id s.heap) (past_unborn s.heap)) (((thrifty, own), more), q);
+        (tt, thrifty, unborn thrifty (next_id s.heap) (past_unborn s.heap)) (((thrifty, own), more), q);
   }
   declaration_on m ms own (declares_record x t (Some items)) ds fs hs thrifty all k more unborn q = on (m ∷ ms) _ refl (tt, (thrifty, ((own, more), q)))
   declaration_on m ms own (declares x right) ds fs hs thrifty all k more unborn q = on (m ∷ ms) _ refl (thrifty, (tt, ((own, more), q)))
@@ -601,12 +606,21 @@ module _ (frugal : Allowance) (lower : List Master) (behind : Control) (among : 
     frugally = inl (more_leads frugal (record { number = height ((m ∷ ms) ++ lower); owned = declared x }) tt behind among k m ms q.1);
   }
 
-  -- A record object is there, which got what its items were: nothing is to be done for it, or it is adjusted.
+  -- A record object is there, which got what its items were: nothing is to be done for it, or it is adjusted, and no Adjust is called, or none tracks.
   pub record_declares_on : (ms : List Master) (x t : ℕ) (values : List Value) (all : List (Activation Value)) → (k : Control)
-      → (all_tasks tds t PartsFirst ≡ []) ⊎ ((frugal.treats_parts ≡ true) × AreKnown frugal.types frugal.unadjusted (all_tasks tds t PartsFirst))
+      → IsFilled frugal (all_tasks tds t PartsFirst)
       → NoOperationRunsOn (created s.heap (words_of tds t)) k → FrugalLeads frugal behind among (DeclaresRecord x t ∷ k) ms → Goes (made named tds x t Copy values (now all k ms))
   record_declares_on [] x t values all k filled alone q = absurd q
-  record_declares_on (m ∷ ms) x t values all k (inr inert) alone q = record {
+  record_declares_on (m ∷ ms) x t values all k (inr (inl untracked)) alone q = record {
+    upper = with_variable (record { number = height ((m ∷ ms) ++ lower); owned = record_object t }) m ∷ ms;
+    masters = refl;
+    frugally =
+        let may = apart frugal.objects (fills_parts frugal t) q.0 in
+        beginning_frugal frugal behind among (created s.heap (words_of tds t)) Copy [] (all_tasks tds t PartsFirst) k
+        (with_variable (record { number = height ((m ∷ ms) ++ lower); owned = record_object t }) m ∷ ms) (untracked, may.0, alone)
+        (more_leads frugal (record { number = height ((m ∷ ms) ++ lower); owned = record_object t }) may.0 behind among k m ms q.1);
+  }
+  record_declares_on (m ∷ ms) x t values all k (inr (inr inert)) alone q = record {
     upper = with_variable (record { number = height ((m ∷ ms) ++ lower); owned = record_object t }) m ∷ ms;
     masters = refl;
     frugally = adjusting_frugal frugal behind among (created s.heap (words_of tds t)) Copy [] (all_tasks tds t PartsFirst) k

@@ -44,7 +44,7 @@ use Rattle.ada_typed.proofs.Bodies.{own_bodies}
 use Rattle.ada_typed.proofs.Control as typed
 use Rattle.ada_typed.proofs.Control.{OwnBody}
 use Rattle.ada_typed.proofs.Kept.{Each, crosses as crosses_by, is_treatment}
-use Rattle.ada_sound.proofs.Allowance.{Allowance, allowance_of, fills_parts, is_unadjusted_named, are_thrifty, are_thrifty_handlers, is_thrifty_body, body_thrifty}
+use Rattle.ada_sound.proofs.Allowance.{Allowance, allowance_of, copies_object, fills_parts, is_unadjusted_named, are_thrifty, are_thrifty_handlers, is_thrifty_body, body_thrifty}
 use Rattle.ada_sound.specs.Agreement.{running_procedure}
 use Rattle.ada_sound.proofs.Calm.{ends_operation}
 use Rattle.ada_sound.proofs.Invariant.{Control}
@@ -97,21 +97,25 @@ module _ (frugal : Allowance) (lower : List Master) (behind : Control) (among : 
   abbrev twice_without : List (Activation Value) → List (Activation Value)
   twice_without all = without (without all)
 
-  -- Nothing is to be done for a record object with an initial value, or no Adjust is called for it.
+  -- Nothing is to be done for a record object with an initial value, or no Adjust tracks, or none is called for it.
   copied_tasks : (t : ℕ) (o : Option ℕ) → object_named frugal.types (Some t) ≡ o → is_unadjusted_named frugal o ≡ true
       → AreKnown frugal.types frugal.unadjusted (all_tasks tds t PartsFirst)
   copied_tasks t None named is = absurd (cc is)
   copied_tasks t (Some r) named is = (r, is, records_inside.1 t r PartsFirst named)
 
-  fills : (t : ℕ) → fills_parts frugal t ≡ true
-      → (all_tasks tds t PartsFirst ≡ []) ⊎ ((frugal.treats_parts ≡ true) × AreKnown frugal.types frugal.unadjusted (all_tasks tds t PartsFirst))
-  fills t is =
+  copied_so : (t : ℕ) → frugal.treats_parts ≡ true → copies_object frugal t ≡ true → frames.IsFilled frugal (all_tasks tds t PartsFirst)
+  copied_so t treats_parts is =
       let named = is_unadjusted_named frugal (object_named frugal.types (Some t)) in
-      elim (or_cases (not (holds_parts frugal.types t)) (frugal.treats_parts && named) is) [
+      elim (or_cases frugal.untracked named is) [
+        | inl untracked ↦ inr (inl untracked)
+        | inr copied ↦ inr (inr (treats_parts, copied_tasks t (object_named frugal.types (Some t)) refl copied))
+      ]
+
+  fills : (t : ℕ) → fills_parts frugal t ≡ true → frames.IsFilled frugal (all_tasks tds t PartsFirst)
+  fills t is =
+      elim (or_cases (not (holds_parts frugal.types t)) (frugal.treats_parts && copies_object frugal t) is) [
         | inl bare ↦ inl (objects_bare t PartsFirst bare)
-        | inr copied ↦
-            let both = and_parts frugal.treats_parts named copied in
-            inr (both.0, copied_tasks t (object_named frugal.types (Some t)) refl both.1)
+        | inr copied ↦ let both = and_parts frugal.treats_parts (copies_object frugal t) copied in copied_so t both.0 both.1
       ]
 
   popped_are : (all : List (Activation Value)) → operands_of (without all) ≡ older (operands_of all)

@@ -33,6 +33,7 @@ use Rattle.ada_finalized.specs.Law.{NoOperationRuns, NoOperationRunsOn, NothingB
 use Rattle.ada_meaning.specs.Finalization.{NothingTreated}
 use Rattle.ada_idle.proofs.Idle.{ControlIsIdle, IsIdle}
 use Rattle.ada_idle.proofs.Unadjusted.{AdjustsNone}
+use Rattle.ada_idle.specs.Law.{adjusts_copy}
 use Rattle.ada_quiet.specs.Apart.{is_tracker, operations_stand_apart}
 use Rattle.ada_quiet.specs.Idle.{copies_parts, makes_parts}
 use Rattle.ada_quiet.specs.Calm.{is_known_calm, unfinalized_types}
@@ -135,6 +136,17 @@ pub record Grounds (program : Program) (s : State) : Type 0 where
       → s.control ≡ frame.Treats v (begins by done) tasks ∷ k → NothingTreated k
   pub adjusts_alone : NoOperationRuns s.control → (v : Value) (cause : Cause) (tasks : List Task) (first t : ℕ) (k : Control)
       → s.control ≡ frame.Treats v (ends cause) tasks ∷ frame.Copies first t ∷ k → AdjustsAlone v k
+
+-- Where a copy is adjusted, something in the text copies a record with controlled parts.
+pub treats_copied : (program : Program) (s : State) → Grounds program s → (v : Value) (treatment : Treatment) (tasks : List Task) (k : Control) → s.control ≡ frame.Treats v treatment tasks ∷ k
+    → adjusts_copy treatment ≡ true → copies_parts (program_form program) ≡ true
+treats_copied program s grounds v treatment tasks k is copy = by (copies_parts (program_form program)) refl
+  where
+    by : (copies : Bool) → copies_parts (program_form program) ≡ copies → copies_parts (program_form program) ≡ true
+    by true copies = copies
+    by false none =
+        let never = (subst (λ (all : Control). AdjustsNone (program_form program).types all) is (grounds.copies none)).0 in
+        absurd (cc (copy, never))
 
 -- Where something is treated, something in the text creates an object with controlled parts, or assigns a record with some.
 pub treats_made : (program : Program) (s : State) → Grounds program s → (v : Value) (treatment : Treatment) (tasks : List Task) (k : Control) → s.control ≡ frame.Treats v treatment tasks ∷ k

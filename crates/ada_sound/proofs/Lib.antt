@@ -332,6 +332,8 @@ pub mod Operated
 pub mod TouchingRests
 -- bodies that shun access types: frugal ones have their shape
 pub mod Shunning
+-- what an operation of a record does not do, no procedure does that is called for a part of it
+pub mod LeftSpares
 -- and that of a Finalize shuns what the end of its object does not reach
 pub mod ShunningEnds
 -- where its body begins

@@ -63,14 +63,15 @@ ending_goes known o cause tasks (Ends w ∷ k) behind heap places ms is (same, e
 ending_goes known o cause tasks (f ∷ k) behind heap places ms is none = absurd none
 
 -- Where an object is freed, undone or left, it ends behind that; where a record of it is assigned to, what is copied is stored in it; and where it is allocated or
--- declared, what is left of it begins.
+-- declared, also as a copy, what is left of it begins.
 inside_goes :
     (known : Known) (types : List TypeForm) (o : Id) (of : ℕ) (treatment : Treatment) (tasks : List Task) (k behind : Control) (heap : List Object)
     (places operands : List Value) (ms : List Master) → IsInside treatment → CopiesInto treatment (Names o) k
     → WaitsFor types o of treatment tasks k behind → TreatsBy known (Names o) treatment tasks k heap places operands ms → GoesOnBehind o behind
 inside_goes known types o of (begins Creation done) tasks k behind heap places operands ms inside into (part, is) treats =
-    inr (inl (record { done = done; of = of; part = part; tasks = tasks; rest = k; is = is }))
-inside_goes known types o of (begins Copy done) tasks k behind heap places operands ms inside into waits treats = absurd inside
+    inr (inl (record { by = Creation; done = done; of = of; part = part; tasks = tasks; rest = k; is = is }))
+inside_goes known types o of (begins Copy done) tasks k behind heap places operands ms inside into (part, is) treats =
+    inr (inl (record { by = Copy; done = done; of = of; part = part; tasks = tasks; rest = k; is = is }))
 inside_goes known types o of (begins (Adjustment number) done) tasks k behind heap places operands ms inside into waits treats = absurd inside
 inside_goes known types o of (ends (Leaving m item)) tasks k behind heap places operands ms inside into (is, copied) treats =
     inl (ending_goes known o (Leaving m item) tasks k behind heap places ms is treats)
@@ -130,7 +131,7 @@ module _ (program : Program) (o : Id) (treatment : Treatment) (caller : Activati
           → Within program w.suspensions (behind_operation (caller ∷ rest) behind lower s)
           → Within program w.suspensions (record (behind_operation (caller ∷ rest) behind lower s) { mode = Raising e })
       by (begins Creation done) (part, is) out' within =
-          let begun : BeginsBehind o behind = record { done = done; of = w.of; part = part; tasks = w.tasks; rest = w.after; is = is } in
+          let begun : BeginsBehind o behind = record { by = Creation; done = done; of = w.of; part = part; tasks = w.tasks; rest = w.after; is = is } in
           raised_within program w.suspensions (behind_operation (caller ∷ rest) behind lower s) e begun within
       by (begins Copy done) waits out' within = absurd (cc out')
       by (begins (Adjustment number) done) waits out' within = absurd (cc out')

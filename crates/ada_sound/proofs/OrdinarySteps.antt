@@ -72,7 +72,7 @@ use Rattle.ada_sound.proofs.Below.{named_below}
 use Rattle.ada_sound.proofs.Standing.{any_type, any_freed}
 use Rattle.ada_sound.proofs.Steps as inside
 use Rattle.ada_sound.proofs.StoredStates.{IsStored, ready_stored}
-use Rattle.ada_sound.proofs.Grounds.{Grounds, Ordinary}
+use Rattle.ada_sound.proofs.Grounds.{Grounds, Ordinary, treats_copied}
 use Rattle.ada_sound.proofs.Calm.{filled_in, typed_calm, behind_calm}
 use Rattle.ada_sound.proofs.Treating.{told_says, told_covered, treats_in_use, treated_next}
 use Rattle.ada_sound.proofs.Treatments.{Begins, BeginsAdjust, StaysHere, TreatedIn}
@@ -268,11 +268,7 @@ module _ (program : Program) (a : Activation Value) (rest : List (Activation Val
 
     -- Where what is treated is a copy, the program copies records with controlled parts.
     copied_here : adjusts_copy treatment ≡ true → copies_parts (program_form program) ≡ true
-    copied_here copy = by (copies_parts (program_form program)) refl
-      where
-        by : (copies : Bool) → copies_parts (program_form program) ≡ copies → copies ≡ true
-        by true is = refl
-        by false none = let never = (grounds.copies none).0 in absurd (cc (copy, never))
+    copied_here copy = treats_copied program whole grounds v treatment tasks k refl copy
 
     -- So it is by the treatment, ...
     copied_as : (by : Treatment) → by ≡ treatment → AdjustsCopy by → copies_parts (program_form program) ≡ true

@@ -11,7 +11,7 @@ use Rattle.ada_program.specs.declared.program.Program.{Program}
 use Rattle.ada_program.specs.ProgramForm.{ProgramForm, program_form}
 use Rattle.ada_parts.specs.Part as parts
 use Rattle.ada_program.specs.declared.program.Exception.{Exception}
-use Rattle.ada_meaning.specs.declared.event.Birth.TheVariants.{Creation}
+use Rattle.ada_meaning.specs.declared.event.Birth.{Birth}
 use Rattle.ada_meaning.specs.declared.event.Cause.{Cause}
 use Rattle.ada_meaning.specs.declared.state.Id.{Id}
 use Rattle.ada_meaning.specs.declared.state.Mode.{Mode}
@@ -155,12 +155,13 @@ pub record EndsBehind (o : Id) (k : Control) : Type 0 where
 
 -- Or the operation has come to its end that begins a part of it (7.6).
 pub record BeginsBehind (o : Id) (k : Control) : Type 0 where
+  pub by : Birth
   pub done : List parts.Part
   pub of : ℕ
   pub part : ℕ
   pub tasks : List Task
   pub rest : Control
-  pub is : k ≡ frame.Awaits (Names o) Creation done of part tasks ∷ rest
+  pub is : k ≡ frame.Awaits (Names o) by done of part tasks ∷ rest
 
 -- Or a Finalize of a part of a record of it that is assigned to (5.2).
 pub record AssignsBehind (o : Id) (k : Control) : Type 0 where
@@ -254,7 +255,7 @@ module _ (program : Program) (s after : State) (o : Id) (going : GoesOnBehind o 
             a.record_type a.to a.width a.tasks a.rest (procedure_of s.activations) reaching.upper (older s.activations) (rw a.is at reaching.control)
         by (inr (inl begun)) =
             let left : LeftShuns p (watches p.types (Some w)) apart (is_watched (Some w)) (is_unnamed p.types (Some w)) behind lower
-            (procedure_of s.activations) (frame.Awaits (Names o) Creation begun.done begun.of begun.part begun.tasks ∷ begun.rest) reaching.upper
+            (procedure_of s.activations) (frame.Awaits (Names o) begun.by begun.done begun.of begun.part begun.tasks ∷ begun.rest) reaching.upper
             (older s.activations) =
             rw begun.is at reaching.control in
             left.0.0
@@ -277,7 +278,7 @@ module _ (program : Program) (s after : State) (o : Id) (going : GoesOnBehind o 
             s after a.is control active masters (λ runs. sym mode ∙ runs) ghosts_stay reaching
         by (inr (inl begun)) =
             waiting_kept p (watches p.types (Some w)) apart (is_watched (Some w)) (is_unnamed p.types (Some w)) behind lower
-            (frame.Awaits (Names o) Creation begun.done begun.of begun.part begun.tasks) begun.rest s after refl begun.is control active masters (λ runs. sym mode ∙ runs) ghosts_stay
+            (frame.Awaits (Names o) begun.by begun.done begun.of begun.part begun.tasks) begun.rest s after refl begun.is control active masters (λ runs. sym mode ∙ runs) ghosts_stay
             reaching
 
   watched_on :
@@ -293,12 +294,12 @@ module _ (program : Program) (s after : State) (o : Id) (going : GoesOnBehind o 
 
 -- Where the operation has come to its end that begins a part of a new object, frugal bodies go on, too, if an exception has come out of it (7.6).
 raised_frugal :
-    (frugal : Allowance) (back : Control) (among : List Value) (mode : Mode) (e : Exception) (v : Value) (done : List parts.Part) (of part : ℕ)
-    (tasks : List Task) (k : Control) (ms : List Master) → Frugal frugal back among mode (frame.Awaits v Creation done of part tasks ∷ k) ms
-    → Frugal frugal back among (Raising e) (frame.Awaits v Creation done of part tasks ∷ k) ms
-raised_frugal frugal back among mode e v done of part tasks k ms (inl leads) = absurd leads.0
-raised_frugal frugal back among mode e v done of part tasks k ms (inr (inl leaving)) = absurd leaving.1
-raised_frugal frugal back among mode e v done of part tasks k ms (inr (inr beginning)) = inr (inr (tt, beginning.1))
+    (frugal : Allowance) (back : Control) (among : List Value) (mode : Mode) (e : Exception) (v : Value) (by : Birth) (done : List parts.Part) (of part : ℕ)
+    (tasks : List Task) (k : Control) (ms : List Master) → Frugal frugal back among mode (frame.Awaits v by done of part tasks ∷ k) ms
+    → Frugal frugal back among (Raising e) (frame.Awaits v by done of part tasks ∷ k) ms
+raised_frugal frugal back among mode e v by done of part tasks k ms (inl leads) = absurd leads.0
+raised_frugal frugal back among mode e v by done of part tasks k ms (inr (inl leaving)) = absurd leaving.1
+raised_frugal frugal back among mode e v by done of part tasks k ms (inr (inr beginning)) = inr (inr (tt, beginning.1))
 
 -- What is around stays around then.
 module _ (program : Program) (gs : List Suspension) (s : State) (e : Exception) where
@@ -317,7 +318,7 @@ module _ (program : Program) (gs : List Suspension) (s : State) (e : Exception) 
           apart,
           are,
           waiting_kept p (watches p.types (Some w)) apart (is_watched (Some w)) (is_unnamed p.types (Some w)) behind lower
-              (frame.Awaits (Names o) Creation begun.done begun.of begun.part begun.tasks) begun.rest s raised refl begun.is refl refl refl (λ runs. absurd (cc runs)) (λ q ghost. refl)
+              (frame.Awaits (Names o) begun.by begun.done begun.of begun.part begun.tasks) begun.rest s raised refl begun.is refl refl refl (λ runs. absurd (cc runs)) (λ q ghost. refl)
               reaching,
         ),
       )
@@ -327,5 +328,5 @@ module _ (program : Program) (gs : List Suspension) (s : State) (e : Exception) 
       let frugal = allowance_of (program_form program) in
       within_by program s raised refl (raised_watched o begun) gs Quiet w refl (alters_same s.heap Quiet)
       (subst (λ (k : Control). Frugal frugal w.outermost.behind (operated_among w.inner) (Raising e) k w.frugal.upper) (sym begun.is)
-      (raised_frugal frugal w.outermost.behind (operated_among w.inner) s.mode e (Names o) begun.done begun.of begun.part begun.tasks begun.rest w.frugal.upper
+      (raised_frugal frugal w.outermost.behind (operated_among w.inner) s.mode e (Names o) begun.by begun.done begun.of begun.part begun.tasks begun.rest w.frugal.upper
       (subst (λ (k : Control). Frugal frugal w.outermost.behind (operated_among w.inner) s.mode k w.frugal.upper) begun.is w.frugal.frugally)))

@@ -17,13 +17,13 @@ use Rattle.ada_program.specs.Controlled.{number_in, is_number, number_by, operat
 use Rattle.ada_program.specs.Form.{StmtForm, skips, assigns, assigns_record, frees, gets, writes, writes_text, chooses, repeats, counts, exits, calls, returns, raises, encloses, StmtsForm, no_stmts, a_stmt, BranchesForm, otherwise, a_branch, HandlersForm, no_handlers, a_handler, DeclarationForm, creates_pool, collects, declares, declares_record}
 use Rattle.ada_program.specs.Nested.{Callees, collected, record_objects, part_nests, statement_nests, statements_nest, branches_nest, handlers_nest, body_nests, call_nests, callees_from, callees_of}
 use Rattle.ada_program.specs.ProgramForm.{TypeForm, VariableForm, BodyForm, ProgramForm, type_form, program_form, body_forms, seen_in}
-use Rattle.ada_program.specs.WellFormed.{IsWellFormed, is_access, profile_of, callable_in, finalization_in, is_operation, overrides_rightly, has_operations, have_operations}
+use Rattle.ada_program.specs.WellFormed.{IsWellFormed, is_access, profile_of, callable_in, finalization_in, is_inherited, is_operation, overrides_rightly, has_operations, have_operations}
 use Rattle.ada_effects.specs.Effects.{no_calls, body_raises}
 use Rattle.ada_flow.specs.Flow.{have_exit, handlers_have_exit}
 use Rattle.ada_typed.proofs.Bodies.{seen_as, seen_fits}
 use Rattle.ada_scopes.proofs.Lacked.{kinds_open}
 use Rattle.ada_scopes.specs.Scopes.{NestsWhereOpen, AllNestWhereOpen, OperationsNest}
-use Rattle.ada_quiet.specs.Apart.{is_this_one, is_adjust_of}
+use Rattle.ada_quiet.specs.Apart.{is_this_one, is_adjust_of, leaves_access}
 use Rattle.ada_quiet.specs.Quiet.{is_quiet_stmt, are_quiet, are_quiet_branches, are_quiet_handlers, are_quiet_declarations, is_plain_body, is_quiet_body, is_plain_procedure, is_quiet_procedure, is_plain_operation, is_quiet_operation, has_access, operation_body}
 use Rattle.ada_quiet.specs.Frugal.{is_frugal_body, frugal_operations, thrift_of, is_frugal_operation}
 use Rattle.ada_quiet.specs.InUse.{may_adjust_frugally, tracks_nothing, may_be_frugal, uses_initialize, uses_finalize, uses_operations, operations_may_be_called, adjusts_alone, adjusts_nothing, may_track, uses_adjust, uses_called_adjust}
@@ -37,6 +37,8 @@ use Rattle.ada_meaning.specs.declared.event.Birth.TheVariants.{Creation, Copy, A
 use Rattle.ada_meaning.specs.declared.event.Cause.{Cause}
 use Rattle.ada_meaning.specs.Frame.{Treatment, begins, ends}
 use Rattle.ada_quiet.proofs.FrugalAt.{operation_at}
+use Rattle.ada_quiet.proofs.QuietFrugal.{frugal_body}
+use Rattle.ada_sound.proofs.OnlyParts.{passed_at}
 use Rattle.ada_sound.proofs.OperationNests.{operation_nests}
 use Rattle.ada_sound.proofs.SimpleBodies.{simple_nests, simple_with}
 use Rattle.ada_sound.proofs.Operating.{IsCalled, PlainBody}
@@ -153,6 +155,8 @@ module _ (p : ProgramForm) where
     initializes : procedure_number o.initialize ≡ Some number → IsPlain number ⊎ (IsFrugal number × IsNotPlain number)
     adjusts : copies_parts p ≡ true → procedure_number o.adjust ≡ Some number → IsQuiet number ⊎ (IsFreelyFrugal number ⊎ (IsSimple number × Owns))
     finalizes : procedure_number o.finalize ≡ Some number → IsQuiet number ⊎ (IsFrugal number × IsNotQuiet number)
+    -- whether an Adjust may be called or not, it is quiet, or frugal, or of a type that owns
+    overrides_adjust : procedure_number o.adjust ≡ Some number → IsQuiet number ⊎ ((slice_index_or (frugal_operations p) number false ≡ true) ⊎ Owns)
 
   plain_one : (o : Option ProcedureNo) (number : ℕ) → is_plain_operation p o ≡ true → procedure_number o ≡ Some number → IsPlain number
   plain_one None number plain is = absurd (cc is)
@@ -214,6 +218,22 @@ module _ (p : ProgramForm) where
           let both = apart (may_track p) (is_simple_operation p (adjusts_alone p) o) uses' in
           inr (inr ((both.0, simple_one o number both.1 is), (apart owns (is_some (operation_body p o)) so).0))
 
+  -- Whether it may be called or not.
+  any_adjust : (owns : Bool) (o : Option ProcedureNo) (number : ℕ) → uses_adjust p owns o ≡ true → procedure_number o ≡ Some number
+      → IsQuiet number ⊎ ((slice_index_or (frugal_operations p) number false ≡ true) ⊎ (owns ≡ true))
+  any_adjust owns o number uses is = either (or_cases (adjusts_nothing p && is_frugal_operation p o) (uses_called_adjust p owns o) uses)
+    where
+      by : IsQuiet number ⊎ (IsFreelyFrugal number ⊎ (IsSimple number × (owns ≡ true)))
+          → IsQuiet number ⊎ ((slice_index_or (frugal_operations p) number false ≡ true) ⊎ (owns ≡ true))
+      by (inl quiet) = inl quiet
+      by (inr (inl freely)) = inr (inl freely.1.1)
+      by (inr (inr simple)) = inr (inr simple.1)
+
+      either : ((adjusts_nothing p && is_frugal_operation p o) ≡ true) ⊎ (uses_called_adjust p owns o ≡ true)
+          → IsQuiet number ⊎ ((slice_index_or (frugal_operations p) number false ≡ true) ⊎ (owns ≡ true))
+      either (inl nothing) = inr (inl (frugal_one o number (apart (adjusts_nothing p) (is_frugal_operation p o) nothing).1 is))
+      either (inr called) = by (adjust_one owns o number called is)
+
   initialize_one : (o : Option ProcedureNo) (number : ℕ) → uses_initialize p o ≡ true → procedure_number o ≡ Some number → IsPlain number ⊎ (IsFrugal number × IsNotPlain number)
   initialize_one o number uses is = by (is_plain_operation p o) refl uses
     where
@@ -222,7 +242,7 @@ module _ (p : ProgramForm) where
       by false plain uses' = let both = apart (may_be_frugal p) (is_frugal_operation p o) uses' in inr ((both.0, frugal_one o number both.1 is), not_plain o number plain is)
 
   three_used : (Owns : Type 0) (owns : Bool) (f : Option Finalization) (number : ℕ) → (owns ≡ true → is_adjust_of number f ≡ true → Owns) → uses_operations p owns f ≡ true → AreUsed Owns (operations_in f) number
-  three_used Owns owns None number own uses = record { initializes = λ is. absurd (cc is); adjusts = λ copies is. absurd (cc is); finalizes = λ is. absurd (cc is) }
+  three_used Owns owns None number own uses = record { initializes = λ is. absurd (cc is); adjusts = λ copies is. absurd (cc is); finalizes = λ is. absurd (cc is); overrides_adjust = λ is. absurd (cc is) }
   three_used Owns owns (Some f) number own uses =
       let three = apart _ _ uses in
       let two = apart _ _ three.0 in
@@ -230,8 +250,15 @@ module _ (p : ProgramForm) where
         initializes = λ is. initialize_one f.operations.initialize number two.0 is;
         adjusts = λ copies is. by is (adjust_one owns f.operations.adjust number (called_adjust owns f.operations.adjust copies two.1) is);
         finalizes = λ is. finalize_one f.operations.finalize number three.1 is;
+        overrides_adjust = λ is. owned is (any_adjust owns f.operations.adjust number two.1 is);
       }
     where
+      owned : procedure_number f.operations.adjust ≡ Some number → IsQuiet number ⊎ ((slice_index_or (frugal_operations p) number false ≡ true) ⊎ (owns ≡ true))
+          → IsQuiet number ⊎ ((slice_index_or (frugal_operations p) number false ≡ true) ⊎ Owns)
+      owned is (inl quiet) = inl quiet
+      owned is (inr (inl frugal)) = inr (inl frugal)
+      owned is (inr (inr owns')) = inr (inr (own owns' (this_one f.operations.adjust number is)))
+
       by : procedure_number f.operations.adjust ≡ Some number → IsQuiet number ⊎ (IsFreelyFrugal number ⊎ (IsSimple number × (owns ≡ true)))
           → IsQuiet number ⊎ (IsFreelyFrugal number ⊎ (IsSimple number × Owns))
       by is (inl quiet) = inl quiet
@@ -403,6 +430,23 @@ pub record AdjustsOwn (types : List TypeForm) (of number : ℕ) : Type 0 where
   pub numbered : number_in (finalization_in (Some t)) ≡ Some of
   pub overrides : is_adjust_of number (finalization_in (Some t)) ≡ true
 
+-- Where nothing tracks, none does.
+pub none_adjusts_own : (p : ProgramForm) → tracks_nothing p ≡ true → (of number : ℕ) → AdjustsOwn p.types of number → ⊥
+none_adjusts_own p nothing of number own =
+    by (finalization_in (Some own.t)) (passed_at (λ t. leaves_access t (finalization_in (Some t))) p.types own.record_type own.t nothing own.at) own.overrides
+  where
+    overridden : (o : Option ProcedureNo) → is_this_one number o ≡ true → is_inherited o ≡ false
+    overridden None this = absurd (cc this)
+    overridden (Some procedure) this = refl
+
+    by : (f : Option Finalization) → leaves_access own.t f ≡ true → is_adjust_of number f ≡ true → ⊥
+    by None leaves adjusts = cc adjusts
+    by (Some f) leaves adjusts =
+        let other = overridden f.operations.adjust adjusts in
+        let owns = own.owns in
+        let both = rw (owns, other) at leaves in
+        cc both
+
 -- A body that begins or ends a part touches storage: that of an Initialize is not plain, or that of an Adjust or a Finalize is not quiet.
 abbrev pub TouchesStorage : ProgramForm → Treatment → BodyForm → Type 0
 TouchesStorage p (begins Creation done) b = is_plain_body p.types b ≡ false
@@ -473,6 +517,15 @@ module _ (program : Program) (uses : operations_may_be_called (program_form prog
   adjusts_as treatment copies lets may touches (inr (inl (nothing, frugal, other))) =
       inr (inl (may nothing, frugal.0, operation_at whole number b frugal.1 there, touches (rw there at other)))
   adjusts_as treatment copies lets may touches (inr (inr both)) = inr (inr (copies, (both.0.0, rw there at both.0.1), both.1))
+
+  -- What overrides an Adjust is frugal where nothing tracks, whether it may be called or not: what is plain is so, too.
+  pub adjusts_frugally : tracks_nothing whole ≡ true → procedure_number (operations_of program.types.items of).adjust ≡ Some number → is_frugal_body (thrift_of whole) b ≡ true
+  adjusts_frugally nothing overrides = by (used.overrides_adjust overrides)
+    where
+      by : IsQuiet whole number ⊎ ((slice_index_or (frugal_operations whole) number false ≡ true) ⊎ AdjustsOwn whole.types of number) → is_frugal_body (thrift_of whole) b ≡ true
+      by (inl quiet) = frugal_body (thrift_of whole) whole.types b (quiet_body quiet).0.plain
+      by (inr (inl frugal)) = operation_at whole number b frugal there
+      by (inr (inr own)) = absurd (none_adjusts_own whole nothing of number own)
 
   pub used_as : (treatment : Treatment) → (AdjustsCopy treatment → copies_parts whole ≡ true) → IsCalled (operations_of program.types.items of) treatment number → IsUsedAs whole of number treatment b
   used_as (begins Creation done) copies called = initializes_as done (used.initializes called)

@@ -4,7 +4,7 @@
 use Rattle.std.proofs.Common.{◌≡◌, ℕ, Bool, true, false, not, ◌==◌, ◌&&◌, ◌||◌, if◌then◌else◌, List, [], ◌∷◌, length, Option, Some, None, refl, sym, subst, inl, inr}
 use Rattle.std.specs.Prelude.{nat_lt, is_some}
 use Rattle.std.specs.List.{list_all, slice_index_or}
-use Rattle.std.proofs.lemmas.Bool.{and_from, and_parts, or_cases, or_left, or_parts, or_right}
+use Rattle.std.proofs.lemmas.Bool.{and_from, and_parts, eqb-true, or_cases, or_left, or_parts, or_right}
 use Rattle.ada_effects.specs.Effects.{record_path_raises}
 use Rattle.ada_program.specs.declared.program.Finalization.{Finalization}
 use Rattle.ada_program.specs.declared.program.ScalarType.TheVariants.{Integer, Boolean}
@@ -12,18 +12,18 @@ use Rattle.ada_program.specs.declared.program.VariableKind.{VariableKind}
 use Rattle.ada_program.specs.declared.program.VariableKind.TheVariants as variable
 use Rattle.ada_program.specs.Form.{PathForm, RecordPathForm, ActualForm, in_value, in_null, in_access, in_record, in_out_path, in_out_access, in_out_component, in_out_record, ExpressionForm, integer, boolean, reads, is_null, applied_to, chained, LinksForm, no_more_links, a_link, ItemForm, null_item, item_of_path, item_of_value, item_of_record, RightForm, nothing, value_of, allocates, allocates_default, computes, DeclarationForm, creates_pool, collects, declares, declares_record, StmtForm, skips, assigns, assigns_record, frees, gets, writes, writes_text, chooses, repeats, counts, exits, calls, returns, raises, encloses, StmtsForm, no_stmts, a_stmt, BranchesForm, otherwise, a_branch, HandlersForm, no_handlers, a_handler}
 use Rattle.ada_program.specs.ProgramForm.{TypeForm, VariableForm, BodyForm, ProgramForm, seen_by}
-use Rattle.ada_program.specs.WellFormed.{Profile, callable_in, choice_fits, collection_fits, collections_first, condition_fits, declarations_fit, designated_type, finalization_of, has_statement, has_type, initial_fits, is_borrower, is_record_object, is_type, lends_to, names_before, names_borrower, object_named, path_kind, record_initial_fits, right_fits, scalar_of, selected_kind, statement_fits, stmts_fit, branches_fit, handlers_fit, type_fits, value_access, variable_fits, variable_kind}
+use Rattle.ada_program.specs.WellFormed.{Profile, callable_in, choice_fits, collection_fits, collections_first, condition_fits, copies_whole, declarations_fit, designated_type, finalization_of, has_statement, has_type, initial_fits, item_before, item_owns, is_borrower, is_copy, is_filled, is_record_object, is_type, lends_to, names_before, names_borrower, object_fits, object_named, path_kind, record_components, record_initial_fits, right_fits, scalar_of, selected_kind, statement_fits, stmts_fit, branches_fit, handlers_fit, type_fits, value_access, variable_fits, variable_kind}
 use Rattle.ada_quiet.specs.Bare.{has_bare_objects}
-use Rattle.ada_quiet.specs.Idle.{holds_parts}
-use Rattle.ada_quiet.specs.Apart.{is_bare_item}
+use Rattle.ada_quiet.specs.Idle.{has_parts, holds_parts}
+use Rattle.ada_quiet.specs.Apart.{is_bare_item, leave_access}
 use Rattle.ada_quiet.specs.Calm.{is_known_calm, unadjusted_types, unfinalized_types}
-use Rattle.ada_quiet.specs.Frugal.{assigns_at_hand, allocates_frugally, is_bare_initial, is_unadjusted, is_unadjusted_named, is_unadjusted_initial, thrift_of, frugal_procedures, is_frugal_declaration, are_frugal_declarations, is_frugal_stmt, are_frugal, are_frugal_branches, are_frugal_handlers, is_frugal_body, is_unfinalized}
+use Rattle.ada_quiet.specs.Frugal.{assigns_at_hand, allocates_frugally, is_bare_initial, is_copied_initial, is_unfinalized, is_unadjusted, is_unadjusted_named, is_unadjusted_initial, thrift_of, frugal_procedures, is_frugal_declaration, are_frugal_declarations, is_frugal_stmt, are_frugal, are_frugal_branches, are_frugal_handlers, is_frugal_body}
 use Rattle.ada_deeds.specs.declared.deed.Callee.{Callee}
 use Rattle.ada_deeds.specs.declared.deed.Callee.TheVariants as callee
 use Rattle.ada_deeds.specs.declared.deed.Deed.{Deed}
 use Rattle.ada_deeds.specs.declared.deed.Deed.TheVariants as deed
-use Rattle.ada_deeds.specs.declared.deed.Operation.TheVariants.{Initialize, Finalize, Adjust}
-use Rattle.ada_deeds.specs.Forms.{path_does, expression_does, condition_does, actuals_do, allocation_does, freeing_does, is_left, procedure_does, parts_do, creation_does, designated_by, right_does, declaration_does, declarations_do, ending_does, leaving_does, stmt_does, stmts_do, branches_do, handlers_do, body_does, record_path_does, items_do}
+use Rattle.ada_deeds.specs.declared.deed.Operation.TheVariants.{Initialize, Adjust, Finalize}
+use Rattle.ada_deeds.specs.Forms.{path_does, record_path_does, item_does, items_do, expression_does, condition_does, actuals_do, allocation_does, freeing_does, is_left, procedure_does, parts_do, creation_does, designated_by, right_does, declaration_does, declarations_do, ending_does, leaving_does, stmt_does, stmts_do, branches_do, handlers_do, body_does}
 use Rattle.ada_deeds.specs.Implicit.{record_at}
 use Rattle.ada_deeds.specs.Within.{does_by}
 use Rattle.ada_deeds.proofs.Naming.{KindFits, access_at, default_access, left_holds, object_at, object_type, path_fits_kind, right_holds, variable_fits_kind}
@@ -172,9 +172,14 @@ module _ (p : ProgramForm) (shuns : ℕ → Bool) where
   abbrev pub CopiesInert : Apart → Type 0
   CopiesInert apart = (t : ℕ) → is_known_calm (unadjusted_types p.types) (finalization_of p.types t) ≡ true → apart.copies t ≡ true
 
+  -- Those of each type may get their values from others whose adjustment is no use, where no Adjust tracks.
+  abbrev pub CopiesSpared : Apart → Type 0
+  CopiesSpared apart =
+      leave_access p.types ≡ true → (t : ℕ) → Spares p shuns (λ d. parts_do (does_by p d) Adjust (Some t)) → apart.copies t ≡ true
+
   -- So it is with those that a body of a well-formed program goes by.
   module _
-      (apart : Apart) (marked : CallsFrugal apart) (ended : EndsSpared apart) (started : StartsSpared apart) (overwritten : AssignsSpared apart) (quietly : CopiesInert apart)
+      (apart : Apart) (marked : CallsFrugal apart) (ended : EndsSpared apart) (started : StartsSpared apart) (overwritten : AssignsSpared apart) (quietly : CopiesInert apart) (copied : CopiesSpared apart)
       (types_fit : list_all (type_fits p.types) p.types ≡ true) (variables : List VariableForm)
       (variables_fit : list_all (variable_fits p.types) variables ≡ true) (texts exceptions : List (List ℕ)) (callable : List Profile) where
     -- What a value names may be freed, where its end is no use.
@@ -211,6 +216,38 @@ module _ (p : ProgramForm) (shuns : ℕ → Bool) where
     named_shaped None is = absurd (cc is)
     named_shaped (Some t) is = quietly t is
 
+    -- A record that is the one item of a copy of its type is adjusted so (4.3.1, 7.6).
+    copy_spares :
+        (t : ℕ) (items : List ItemForm) → is_copy t items ≡ true → Spares p shuns (λ d. items_do p.types variables (does_by p d) d items)
+        → Spares p shuns (λ d. parts_do (does_by p d) Adjust (Some t))
+    copy_spares t [] is spares = absurd (cc is)
+    copy_spares t (null_item ∷ items) is spares = absurd (cc is)
+    copy_spares t (item_of_path path ∷ items) is spares = absurd (cc is)
+    copy_spares t (item_of_value e ∷ items) is spares = absurd (cc is)
+    copy_spares t (item_of_record q ∷ items) is spares =
+        let one = λ (d : Deed). item_does p.types variables (does_by p d) d (item_of_record q) in
+        let more = λ (d : Deed). items_do p.types variables (does_by p d) d items in
+        let found = λ (d : Deed). record_path_does p.types variables d q in
+        let adjusted = λ (d : Deed). parts_do (does_by p d) Adjust (Some q.record_type) in
+        let same : q.record_type ≡ t = eqb-true q.record_type t (left_holds (q.record_type == t) (length items == 0) is) in
+        subst (λ (u : ℕ). Spares p shuns (λ d. parts_do (does_by p d) Adjust (Some u))) same (second found adjusted (first one more spares))
+
+    -- Where no Adjust tracks, a record object may get its initial value, if it has no controlled parts, or its adjustment is no use.
+    untracked_shaped :
+        (object : ℕ) (items : List ItemForm) (o : Option ℕ) → object_fits p.types variables o items ≡ true → leave_access p.types ≡ true → apart.ends object ≡ true
+        → Spares p shuns (λ d. items_do p.types variables (does_by p d) d items) → (not (has_parts p.types o) || (apart.ends object && may_copy_named apart o)) ≡ true
+    untracked_shaped object items None fits none ends spares = refl
+    untracked_shaped object items (Some t) fits none ends spares =
+        by (finalization_of p.types t)
+        (right_holds (is_filled p.types variables (record_components p.types t) items && list_all (item_owns variables) items)
+        (copies_whole t (finalization_of p.types t) items) fits)
+      where
+        by : (f : Option Finalization) → copies_whole t f items ≡ true → (not (is_some f) || (apart.ends object && apart.copies t)) ≡ true
+        by None whole = refl
+        by (Some f) whole =
+            and_from (apart.ends object) (apart.copies t) ends
+            (copied none t (copy_spares t items (right_holds (not f.limited) (is_copy t items) whole) spares))
+
     -- A declaration has it (3.3.1): that of a variable,
     declaration_shaped :
         (c : DeclarationForm) → initial_fits p.types variables c ≡ true → is_frugal_declaration (thrift_of p) c ≡ true
@@ -235,8 +272,8 @@ module _ (p : ProgramForm) (shuns : ℕ → Bool) where
         let begun = λ (d : Deed). parts_do (does_by p d) Initialize (record_at p.types object) in
         let undone = λ (d : Deed). parts_do (does_by p d) Finalize (record_at p.types object) in
         and_from (apart.starts object) (apart.ends object) (started object created) (ended object (second begun undone created))
-    -- One without controlled parts starts with what its items are, and so does one of a type that overrides no Adjust, which ends where its
-    -- master is left.
+    -- One without controlled parts starts with what its items are, and so does one of a type that overrides no Adjust, or of any, where none tracks, which ends
+    -- where its master is left.
     declaration_shaped (declares_record x object (Some items)) fits is spares ends =
         let test = item_shuns p.types (λ t. false) apart variables in
         let bare = not (holds_parts p.types object) in
@@ -248,10 +285,17 @@ module _ (p : ProgramForm) (shuns : ℕ → Bool) where
         let same = object_at p.types object (object_type p.types types_fit variables variables_fit kind object held known) in
         let left = subst (λ (o : Option ℕ). Spares p shuns (λ d. parts_do (does_by p d) Finalize o)) (sym same) ends in
         and_from (may_fill p.types apart object) (list_all test items)
-        (elim (or_cases (is_bare_initial p.types object items) (is_unadjusted_initial (thrift_of p) object) is) [
+        (elim (or_cases (is_bare_initial p.types object items) (is_copied_initial (thrift_of p) object) is) [
           | inl bare_so ↦ or_left bare (apart.ends object && named) (and_parts bare (list_all (is_bare_item p.types) items) bare_so).0
-          | inr copied ↦
-              or_right bare (apart.ends object && named) (and_from (apart.ends object) named (ended object left) (named_shaped (object_named p.types (Some object)) copied))
+          | inr copied_so ↦ elim (or_cases (leave_access p.types) (is_unadjusted_initial (thrift_of p) object) copied_so) [
+            | inl none ↦
+                let filled = right_holds (list_all (item_before x) items) (object_fits p.types variables (object_named p.types (Some object)) items)
+                (right_holds (is_record_object object kind) (record_initial_fits p.types variables x (object_named p.types (Some object)) (Some items)) fits) in
+                untracked_shaped object items (object_named p.types (Some object)) filled none (ended object left) spares
+            | inr unadjusted ↦
+                or_right bare (apart.ends object && named)
+                (and_from (apart.ends object) named (ended object left) (named_shaped (object_named p.types (Some object)) unadjusted))
+          ]
         ])
         (all_so test (item_shaped p.types apart variables) items)
 
@@ -456,13 +500,13 @@ module _ (p : ProgramForm) (shuns : ℕ → Bool) where
 
   -- So has such a body, as the program that it sees fits.
   pub body_shaped :
-      (apart : Apart) → CallsFrugal apart → EndsSpared apart → StartsSpared apart → AssignsSpared apart → CopiesInert apart → (number : ℕ) (b : BodyForm) → SeenFits (seen_by number b p)
+      (apart : Apart) → CallsFrugal apart → EndsSpared apart → StartsSpared apart → AssignsSpared apart → CopiesInert apart → CopiesSpared apart → (number : ℕ) (b : BodyForm) → SeenFits (seen_by number b p)
       → is_frugal_body (thrift_of p) b ≡ true → Spares p shuns (λ d. body_does p.types (does_by p d) d b) → body_shuns p.types (λ t. false) apart b ≡ true
-  body_shaped apart marked ended started overwritten quietly number b fits =
+  body_shaped apart marked ended started overwritten quietly copied number b fits =
       let callable = callable_in (seen_by number b p) in
-      master_shaped apart marked ended started overwritten quietly fits.types_fit b.variables fits.variables_fit p.texts p.exceptions callable b.declarations b.statements
+      master_shaped apart marked ended started overwritten quietly copied fits.types_fit b.variables fits.variables_fit p.texts p.exceptions callable b.declarations b.statements
       b.handlers fits.initials_fit
-      (statements_shaped apart marked ended started overwritten quietly fits.types_fit b.variables fits.variables_fit p.texts p.exceptions callable false b.statements
+      (statements_shaped apart marked ended started overwritten quietly copied fits.types_fit b.variables fits.variables_fit p.texts p.exceptions callable false b.statements
       fits.statements_fit)
-      (handlers_shaped apart marked ended started overwritten quietly fits.types_fit b.variables fits.variables_fit p.texts p.exceptions callable false b.handlers
+      (handlers_shaped apart marked ended started overwritten quietly copied fits.types_fit b.variables fits.variables_fit p.texts p.exceptions callable false b.handlers
       fits.handlers_fit)

@@ -7,7 +7,7 @@ use Rattle.ada_sound.proofs.AssignedParts.{done_inside, own_record}
 use Rattle.std.proofs.Common.{◌≡◌, ℕ, zero, suc, ◌<◌, Bool, true, false, not, ◌==◌, ◌&&◌, ◌||◌, List, [], ◌∷◌, length, Option, Some, None, refl, sym, ap, ◌∙◌, subst, arith, inl, inr}
 use Rattle.std.specs.Prelude.{nat_lt}
 use Rattle.std.specs.List.{slice_get, slice_index_or}
-use Rattle.std.proofs.lemmas.Bool.{and_from, and_parts, or_parts, eqb-true, eqb-false, lt-ltb, ltb-true, not-true, false_from_ne_true}
+use Rattle.std.proofs.lemmas.Bool.{and_from, and_parts, or_cases, or_left, or_parts, or_right, eqb-true, eqb-false, lt-ltb, ltb-true, not-true, false_from_ne_true}
 use Rattle.ada_parts.specs.declared.tasks.Direction.{Direction}
 use Rattle.ada_parts.specs.declared.tasks.Direction.TheVariants.{PartsFirst, WholeFirst}
 use Rattle.ada_parts.specs.Shape.{Shape}
@@ -22,7 +22,8 @@ use Rattle.ada_meaning.specs.Frame.{Treatment, begins, ends}
 use Rattle.ada_meaning.specs.Step.{all_tasks, member_at, picked_task, tasks_for}
 use Rattle.ada_quiet.specs.Calm.{is_known_calm, unadjusted_types, unfinalized_types}
 use Rattle.ada_quiet.specs.Frugal.{thrift_of, frugal_procedures, is_frugal_body}
-use Rattle.ada_quiet.specs.InUse.{operations_may_be_called}
+use Rattle.ada_quiet.specs.Apart.{leave_access}
+use Rattle.ada_quiet.specs.InUse.{operations_may_be_called, tracks_nothing}
 use Rattle.ada_quiet.proofs.FrugalAt.{frugal_at}
 use Rattle.ada_quiet.proofs.QuietFrugal.{frugal_body}
 use Rattle.ada_deeds.specs.declared.deed.Callee.{Callee}
@@ -30,7 +31,7 @@ use Rattle.ada_deeds.specs.declared.deed.Callee.TheVariants as callee
 use Rattle.ada_deeds.specs.declared.deed.Deed.{Deed}
 use Rattle.ada_deeds.specs.declared.deed.Deed.TheVariants as deed
 use Rattle.ada_deeds.specs.declared.deed.Operation.{Operation}
-use Rattle.ada_deeds.specs.declared.deed.Operation.TheVariants.{Initialize, Finalize}
+use Rattle.ada_deeds.specs.declared.deed.Operation.TheVariants.{Initialize, Adjust, Finalize}
 use Rattle.ada_deeds.specs.Does.{called_does, is_deed_of, Does, does}
 use Rattle.ada_deeds.specs.Forms.{body_does, creation_does, overriding, parts_do}
 use Rattle.ada_deeds.specs.Implicit.{implicit_of, record_at}
@@ -46,9 +47,10 @@ use Rattle.ada_typed.proofs.Bodies.{SeenFits, seen_as, seen_fits}
 use Rattle.ada_typed.proofs.Lying.{IsOperable, Lying, lying_all, lying_taken}
 use Rattle.ada_typed.proofs.Parts.{known_number, shapes_shown}
 use Rattle.ada_sound.proofs.FrugalUseEnds.{done_lying}
+use Rattle.ada_sound.proofs.LeftSpares.{left_spares}
 use Rattle.ada_sound.proofs.Operating.{IsCalled}
-use Rattle.ada_sound.proofs.QuietOperations.{AdjustsCopy, IsUsedAs, used_as}
-use Rattle.ada_sound.proofs.Shunning.{CallsFrugal, EndsSpared, Spares, StartsSpared, body_shaped, calling, first, following, freeing, is_use, second, AssignsSpared}
+use Rattle.ada_sound.proofs.QuietOperations.{AdjustsCopy, IsUsedAs, adjusts_frugally, used_as}
+use Rattle.ada_sound.proofs.Shunning.{AssignsSpared, CopiesInert, CallsFrugal, CopiesSpared, EndsSpared, Spares, StartsSpared, body_shaped, calling, first, following, freeing, is_use, second}
 
 -- A body is frugal, where there is one.
 abbrev is_frugal_one : ProgramForm → Option BodyForm → Bool
@@ -92,15 +94,21 @@ abbrev start_reaches : ProgramForm → (t access : ℕ) → Bool
 start_reaches p t u =
     creation_does (does_by p (freeing u)) (record_at p.types t) || creation_does (does_by p (following u)) (record_at p.types t)
 
+-- So does the adjustment of a record of a type (7.6).
+abbrev adjust_reaches : ProgramForm → (t access : ℕ) → Bool
+adjust_reaches p t u = parts_do (does_by p (freeing u)) Adjust (Some t) || parts_do (does_by p (following u)) Adjust (Some t)
+
 -- These procedures; the types of which the end of an object does neither; those of which the start of an object does neither; the record types of which the end
--- of a record does neither; and those that override no Adjust.
+-- of a record does neither; and those that override no Adjust, or whose adjustment does neither, where no Adjust tracks.
 abbrev apart_from : Program → (shuns : ℕ → Bool) → Apart
 apart_from program shuns = record {
   calls = is_shunning (program_form program) shuns;
   ends = λ t. none_of (program_form program) shuns (λ u. (implicit_of (program_form program)).end_reaches t u);
   starts = λ t. none_of (program_form program) shuns (λ u. start_reaches (program_form program) t u);
   assigns = λ t. none_of (program_form program) shuns (λ u. (implicit_of (program_form program)).end_reaches t u);
-  copies = λ t. is_known_calm (unadjusted_types (program_form program).types) (finalization_of (program_form program).types t);
+  copies = λ t.
+      is_known_calm (unadjusted_types (program_form program).types) (finalization_of (program_form program).types t)
+      || (leave_access (program_form program).types && none_of (program_form program) shuns (λ u. adjust_reaches (program_form program) t u));
   definitions = program.types.items;
 }
 
@@ -198,6 +206,11 @@ module _ (p : ProgramForm) (shuns : ℕ → Bool) where
       let ended = parts_spare Finalize (record_at p.types t) (second p shuns one other spares) u is there in
       rw (begun.0, begun.1, ended.0, ended.1) refl)
 
+  -- So it is with an adjustment.
+  adjust_spares : (t : ℕ) → Spares p shuns (λ d. parts_do (does_by p d) Adjust (Some t)) → none_of p shuns (λ u. adjust_reaches p t u) ≡ true
+  adjust_spares t spares =
+      none_from (λ u. adjust_reaches p t u) (λ u is there. let adjusted = parts_spare Adjust (Some t) spares u is there in rw (adjusted.0, adjusted.1) refl)
+
   -- A procedure that is told to be frugal has a frugal body, if it has one.
   told_frugal : (n : ℕ) → slice_index_or (frugal_procedures p) n false ≡ true → is_frugal_one p (slice_get p.bodies n) ≡ true
   told_frugal n told = by (slice_get p.bodies n) refl
@@ -280,6 +293,16 @@ module _ (program : Program) (well : IsWellFormed (program_form program)) (uses 
       → is_frugal_one p (slice_get p.bodies number) ≡ true
   initialize_frugal of number overrides = called_frugal of number (begins Creation []) (λ copies. copies) overrides
 
+  -- So is what overrides Adjust, where none tracks.
+  adjust_frugal :
+      tracks_nothing p ≡ true → (of number : ℕ) → procedure_number (operations_of program.types.items of).adjust ≡ Some number
+      → is_frugal_one p (slice_get p.bodies number) ≡ true
+  adjust_frugal nothing of number overrides = by (slice_get p.bodies number) refl
+    where
+      by : (found : Option BodyForm) → slice_get p.bodies number ≡ found → is_frugal_one p found ≡ true
+      by None there = refl
+      by (Some b) there = adjusts_frugally program uses well of number b there nothing overrides
+
   -- What an operation of an object does not do, that of a record does not do that lies in it.
   operation_spares :
       (operation : Operation) (access of part number : ℕ) → IsOperable p.types access of part
@@ -356,7 +379,29 @@ module _ (program : Program) (well : IsWellFormed (program_form program)) (uses 
         let two = or_parts (ended (freeing u)) (ended (following u)) (none_at p shuns (λ v. (implicit_of p).end_reaches t v) reaches u is there) in
         (spared (freeing u) two.0, spared (following u) two.1))
 
-    -- So is each operation that the start or the end of an object calls which they may start or end.
+    -- So is an Adjust, where none tracks, and the adjustment of the record does not reach the types.
+    adjust_shuns :
+        (record_type of part number : ℕ) (tasks : List Task) → apart.copies record_type ≡ true
+        → IsLeftIn program.types.items PartsFirst record_type (performs of part ∷ tasks) → procedure_number (operations_of program.types.items of).adjust ≡ Some number
+        → apart.calls number ≡ true
+    adjust_shuns record_type of part number tasks may left overrides =
+        elim (or_cases (is_known_calm (unadjusted_types p.types) (finalization_of p.types record_type)) (leave_access p.types && none_of p shuns (λ u. adjust_reaches p record_type u)) may) [
+          | inl unadjusted ↦
+              let none = unadjusted_calls_nothing program well record_type of part tasks unadjusted left in
+              absurd (cc (none, overrides))
+          | inr untracked ↦
+              let both = and_parts (leave_access p.types) (none_of p shuns (λ u. adjust_reaches p record_type u)) untracked in
+              shunning_from p shuns number (adjust_frugal both.0 of number overrides) (λ u is there.
+              let freed = parts_do (does_by p (freeing u)) Adjust (Some record_type) in
+              let followed = parts_do (does_by p (following u)) Adjust (Some record_type) in
+              let neither = or_parts freed followed (none_at p shuns (λ v. adjust_reaches p record_type v) both.1 u is there) in (
+                left_spares program well Adjust PartsFirst (freeing u) record_type of part number tasks neither.0 left overrides,
+                left_spares program well Adjust PartsFirst (following u) record_type of part number tasks neither.1 left overrides,
+              ))
+        ]
+
+    -- So is each operation that the start or the end of an object calls which they may start or end, or the adjustment of a record that gets its value from another
+    -- one.
     operations_apart : CallsApart program.types.items apart
     operations_apart = record {
       finalizes = λ access of part number tasks may left overrides.
@@ -367,7 +412,7 @@ module _ (program : Program) (well : IsWellFormed (program_form program)) (uses 
           (start_shuns access of part number (begun_lies program access of part begun) may).1 overrides;
       overwrites = λ record_type of part number tasks may left overrides.
           overwrite_shuns record_type of number (left_inside program record_type left).0 overrides may;
-      copies_quietly = λ record_type of part tasks may left. unadjusted_calls_nothing program well record_type of part tasks may left;
+      adjusts = λ record_type of part number tasks may left overrides. adjust_shuns record_type of part number tasks may left overrides;
     }
 
     -- They free and follow no value of the types,
@@ -411,6 +456,18 @@ module _ (program : Program) (well : IsWellFormed (program_form program)) (uses 
         end_spares p shuns t
         (subst (λ (o : Option ℕ). Spares p shuns (λ d. parts_do (does_by p d) Finalize o)) (sym (own_record t (slice_get p.types t) f is)) spares)
 
+    -- and those of each type may get their values from others, if it overrides no Adjust,
+    copies_inert : CopiesInert p shuns apart
+    copies_inert t known =
+        or_left (is_known_calm (unadjusted_types p.types) (finalization_of p.types t)) (leave_access p.types && none_of p shuns (λ u. adjust_reaches p t u)) known
+
+    -- or if the adjustment is no use, where none tracks.
+    copies_spared : CopiesSpared p shuns apart
+    copies_spared nothing t spares =
+        let none = none_of p shuns (λ u. adjust_reaches p t u) in
+        or_right (is_known_calm (unadjusted_types p.types) (finalization_of p.types t)) (leave_access p.types && none)
+        (and_from (leave_access p.types) none nothing (adjust_spares p shuns t spares))
+
     -- So they have the shape.
     shaped : AreShaped p program.types.items apart
     shaped = record {
@@ -418,7 +475,7 @@ module _ (program : Program) (well : IsWellFormed (program_form program)) (uses 
       bodies = λ n b among there.
           let fits : SeenFits (seen_by n b p) = subst (λ (own : ProgramForm). SeenFits own) (seen_as p n b there) (seen_fits p well (Some n)) in
           let frugal = subst (λ (found : Option BodyForm). is_frugal_one p found ≡ true) there (shunning_parts p shuns n among).0 in
-          body_shaped p shuns apart calls_frugal ends_spared starts_spared assigns_spared (λ t known. known) n b fits frugal
+          body_shaped p shuns apart calls_frugal ends_spared starts_spared assigns_spared copies_inert copies_spared n b fits frugal
           (body_spares p shuns n b there (uses_none n among));
       operations = operations_apart;
     }

@@ -91,7 +91,7 @@ are_bare program shuns = record {
     initializes = λ access of part number may begun overrides. absurd (cc);
     undoes = λ access of part number may begun overrides. absurd (cc);
     overwrites = λ record_type of part number tasks may left overrides. absurd (cc);
-    copies_quietly = λ record_type of part tasks may left. absurd (cc);
+    adjusts = λ record_type of part number tasks may left overrides. absurd (cc);
   };
 }
 

@@ -25,7 +25,8 @@ use Rattle.ada_program.specs.declared.program.Program.{Program}
 use Rattle.ada_program.specs.ProgramForm.{BodyForm, ProgramForm, TypeForm, record_of, body_forms, program_form, seen_in}
 use Rattle.ada_program.specs.WellFormed.{IsWellFormed, finalization_in, is_inherited}
 use Rattle.ada_quiet.specs.Bare.{has_bare_objects}
-use Rattle.ada_quiet.specs.InUse.{leaves_access, tracks_nothing}
+use Rattle.ada_quiet.specs.Apart.{leaves_access}
+use Rattle.ada_quiet.specs.InUse.{tracks_nothing}
 use Rattle.ada_quiet.specs.Quiet.{has_access}
 use Rattle.ada_typed.proofs.Lying.{IsOperable}
 use Rattle.ada_typed.proofs.Parts.{shown_shapes}
@@ -86,16 +87,21 @@ module _ (program : Program) (well : IsWellFormed (program_form program)) where
         by false none = cc (none, owns)
         by true is = let one = s.overridden in let both = rw (is, one) at leaves in cc both
 
-    -- So no component is to be adjusted.
-    part_owns_none : (access r : ℕ) (tasks : List Task) → CopyLeft p.types access r tasks → (q : parts.Part) → Contains (parts_left (shown_shapes p.types) tasks) q
-        → part_owners p.types access q ≡ []
-    part_owns_none access r tasks left q has = by (owners_numbered p.types q.of) refl
+    -- So no part that is left of a copy declares a component of an access type,
+    numbered_none : (access r : ℕ) (tasks : List Task) → CopyLeft p.types access r tasks → (q : parts.Part) → Contains (parts_left (shown_shapes p.types) tasks) q
+        → owners_numbered p.types q.of ≡ []
+    numbered_none access r tasks left q has = by (owners_numbered p.types q.of) refl
       where
-        by : (owners : List ℕ) → owners_numbered p.types q.of ≡ owners → part_owners p.types access q ≡ []
-        by [] none = rw none refl
+        by : (owners : List ℕ) → owners_numbered p.types q.of ≡ owners → owners_numbered p.types q.of ≡ []
+        by [] none = none
         by (c ∷ cs) some =
             let sees = left_sees program well access r tasks left q has (λ none. cc (none, some)) in
             absurd (sees_to_none sees.0 q.of sees.1)
+
+    -- and no component is to be adjusted.
+    part_owns_none : (access r : ℕ) (tasks : List Task) → CopyLeft p.types access r tasks → (q : parts.Part) → Contains (parts_left (shown_shapes p.types) tasks) q
+        → part_owners p.types access q ≡ []
+    part_owns_none access r tasks left q has = let none = numbered_none access r tasks left q has in rw none refl
 
     owned_none : (access r : ℕ) (tasks : List Task) → CopyLeft p.types access r tasks → owners_left p.types access tasks ≡ []
     owned_none access r tasks left = none_of_each (part_owners p.types access) (parts_left (shown_shapes p.types) tasks) (part_owns_none access r tasks left)
@@ -109,6 +115,14 @@ module _ (program : Program) (well : IsWellFormed (program_form program)) where
           let same = same_types procedure p in
           subst (λ (types : List TypeForm). owners_left types access tasks ≡ []) (sym same)
           (owned_none access r tasks (subst (λ (types : List TypeForm). CopyLeft types access r tasks) same left))
+
+      -- Nor does the part that is adjusted next.
+      pub next_owns_none : (access r of part : ℕ) (tasks : List Task) → CopyLeft known.program.types access r (performs of part ∷ tasks) → owners_numbered known.program.types of ≡ []
+      next_owns_none access r of part tasks left =
+          let same = same_types procedure p in
+          subst (λ (types : List TypeForm). owners_numbered types of ≡ []) (sym same)
+          (numbered_none access r (performs of part ∷ tasks) (subst (λ (types : List TypeForm). CopyLeft types access r (performs of part ∷ tasks)) same left)
+          (record { of = of; number = part }) (head_in (record { of = of; number = part }) (parts_left (shown_shapes p.types) tasks)))
 
       -- The Adjust of a part is called.
       module _

@@ -1,5 +1,5 @@
 -- An object that is freed or undone, or whose master is left, is finalized while an operation that touches storage is under way (7.6.1, 13.11.2), and one that
--- is allocated or declared begins (4.8, 3.3.1): its operation begins, inside the other one, or what is left goes on.
+-- is allocated or declared, also as a copy, begins (4.8, 3.3.1): its operation begins, inside the other one, or what is left goes on.
 
 use Rattle.ada_sound.proofs.TouchingRests.{IsStoredIn}
 use Rattle.ada_meaning.specs.declared.event.Cause.TheVariants.{Leaving, Freeing, Assigning, Undoing}
@@ -24,7 +24,9 @@ use Rattle.ada_meaning.specs.Step.{halts, moves, tells, asks, picks, older, oper
 use Rattle.ada_meaning.specs.Named.{State, Next, named, next}
 use Rattle.ada_meaning.specs.Run.{Event, settled}
 use Rattle.ada_quiet.specs.Frugal.{is_frugal_body, thrift_of}
-use Rattle.ada_quiet.specs.InUse.{may_be_frugal}
+use Rattle.ada_quiet.specs.Idle.{copies_parts}
+use Rattle.ada_quiet.specs.InUse.{may_be_frugal, tracks_nothing}
+use Rattle.ada_idle.specs.Law.{adjusts_copy}
 use Rattle.ada_finalized.specs.Law.{finalized_before, NoOperationRunsOn}
 use Rattle.ada_reaching.proofs.Behind.{behind_reaches, treating_inside, waiting_inside, waiting_reaches}
 use Rattle.ada_reaching.specs.Apart.{Apart}
@@ -43,32 +45,33 @@ use Rattle.ada_sound.proofs.Invariant.{Control, Known, Stepped}
 use Rattle.ada_sound.proofs.Operating.{PlainBody, WaitsFor, behind_operation}
 use Rattle.ada_sound.proofs.OperationBegins.{begins_operation}
 use Rattle.ada_sound.proofs.Pauses.{AllWatched, inner_on, touching_awaits}
-use Rattle.ada_sound.proofs.QuietOperations.{AdjustsCopy, IsUsedAs, LetsNothingOut, MayTouch, TouchesStorage, used_as}
+use Rattle.ada_sound.proofs.QuietOperations.{AdjustsCopy, IsUsedAs, LetsNothingOut, MayTouch, TouchesStorage, none_adjusts_own, used_as}
 use Rattle.ada_sound.proofs.CopiedOwners.{BeginsCopy}
 use Rattle.ada_sound.proofs.Ready.{running}
 use Rattle.ada_sound.proofs.Returns.{CrossesTo, same_types}
-use Rattle.ada_sound.proofs.Grounds.{Grounds, treats_made}
+use Rattle.ada_sound.proofs.Grounds.{Grounds, treats_copied, treats_made}
 use Rattle.ada_sound.proofs.Touching.{AreInner, Pause, Touching, Watch, Watched, Within, is_unnamed, is_watched, operated_among, origin, watches}
 use Rattle.ada_sound.proofs.TouchingBegins.{Begun}
+use Rattle.ada_sound.proofs.TouchingCopies.{next_owns_none}
 use Rattle.ada_sound.proofs.TouchingGoes.{GoesTouching, InTouching, Still, Went, behind_it, inner_stays, outermost, stays_on, still_on, thrifty, touching_on, with_parts, within_on}
 use Rattle.ada_sound.proofs.TouchingStands.{touching_stands, treated_begin}
 use Rattle.ada_sound.proofs.TouchingStarts.{IsLoneBehind, lone_inside, touching_starts}
 use Rattle.ada_sound.proofs.Treating.{IsOperated, told_covered, told_says, treated_next, treats_in_use}
-use Rattle.ada_sound.proofs.Treatments.{Begins, StaysHere, TreatedIn}
+use Rattle.ada_sound.proofs.Treatments.{Begins, BeginsAdjust, StaysHere, TreatedIn}
 use Rattle.ada_sound.proofs.Waiting.{SameBody}
 
--- No copy is adjusted where an object is freed, allocated or declared, or its master is left.
-inside_adjusts : (treatment : Treatment) → IsInside treatment → AdjustsCopy treatment → ⊥
-inside_adjusts (begins Creation done) inside copies = copies
-inside_adjusts (begins Copy done) inside copies = inside
-inside_adjusts (begins (Adjustment number) done) inside copies = inside
-inside_adjusts (ends cause) inside copies = copies
+-- What is called for a copy is an Adjust, as the definition of programs that copy nothing tells it.
+copy_told : (treatment : Treatment) → AdjustsCopy treatment → adjusts_copy treatment ≡ true
+copy_told (begins Creation done) copies = absurd copies
+copy_told (begins Copy done) copies = refl
+copy_told (begins (Adjustment number) done) copies = refl
+copy_told (ends cause) copies = absurd copies
 
--- No copy begins there.
-copies_outside : (by : Birth) (done : List parts.Part) → BeginsCopy by → IsInside (begins by done) → ⊥
-copies_outside Creation done copies inside = copies
-copies_outside Copy done copies inside = inside
-copies_outside (Adjustment number) done copies inside = inside
+-- A copy begins so.
+copy_begins : (by : Birth) (done : List parts.Part) → BeginsCopy by → AdjustsCopy (begins by done)
+copy_begins Creation done copies = absurd copies
+copy_begins Copy done copies = tt
+copy_begins (Adjustment number) done copies = tt
 
 -- An object that ceases to exist behind its finalization does so behind what is left of that.
 finalized_behind : (v : Value) (treatment : Treatment) (tasks : List Task) (k : Control) → finalized_before k ≡ v → finalized_before (treating v treatment tasks k) ≡ v
@@ -128,11 +131,18 @@ module _ (program : Program) (a : Activation Value) (rest : List (Activation Val
     -- So it is one that may be treated inside another operation.
     inside_so : (way : Treatment) → Treated way → IsInside way
     inside_so (begins Creation done) beginning = tt
-    inside_so (begins Copy done) beginning = let created = beginning.0.0 in absurd (cc created)
-    inside_so (begins (Adjustment number) done) beginning = let created = beginning.0.0 in absurd (cc created)
+    inside_so (begins Copy done) beginning = tt
+    inside_so (begins (Adjustment number) done) beginning = absurd beginning.0.0
     inside_so (ends cause) (inl ending) = inl (inl ending.0.0)
     inside_so (ends cause) (inr (inl leaving)) = inl (inr leaving.0.0)
     inside_so (ends cause) (inr (inr replacing)) = inr replacing.0.0
+
+    -- Where it is a copy, no Adjust tracks.
+    untracked_so : (way : Treatment) → Treated way → AdjustsCopy way → tracks_nothing p ≡ true
+    untracked_so (begins Creation done) beginning copies = absurd copies
+    untracked_so (begins Copy done) beginning copies = beginning.0.0
+    untracked_so (begins (Adjustment number) done) beginning copies = absurd beginning.0.0
+    untracked_so (ends cause) ended copies = absurd copies
 
     -- It goes on in the body that frees, allocates or declares it, or that leaves its master, or out of whose beginning an exception has come.
     goes_here : (e : Event) (after : State) → Stepped treater s.heap e after × StaysHere treater a rest s program.types.items (body_forms program) k Operated after
@@ -242,17 +252,17 @@ module _ (program : Program) (a : Activation Value) (rest : List (Activation Val
         reaches_behind before apart treats begun = by c.treatment inside_it waits_here
           where
             by : (way : Treatment) → IsInside way → WaitsFor p.types c.o c.of way c.tasks k c.behind → Reaches apart behind_it_all
-            by (begins Creation done) inside' (part, is) =
-                let left : Control = Awaits (Names c.o) Creation done c.of part c.tasks ∷ k in
+            by (begins how done) inside' (part, is) =
+                let left : Control = Awaits (Names c.o) how done c.of part c.tasks ∷ k in
                 let first : Reaches apart (operating named c.number c.b (Part c.o c.place) c.behind started) = rw c.is at begun in
                 let there : Reaches apart (operating named c.number c.b (Part c.o c.place) left started) =
                 subst (λ (j : Control). Reaches apart (operating named c.number c.b (Part c.o c.place) j started)) is first in
                 let within =
                 waiting_inside p (watches p.types (Some w)) before (is_watched (Some w)) (is_unnamed p.types (Some w)) behind lower
-                (Awaits (Names c.o) Creation done c.of part c.tasks) a.procedure k treats.upper rest treats.control.2 in
+                (Awaits (Names c.o) how done c.of part c.tasks) a.procedure k treats.upper rest treats.control.2 in
                 let reaching =
                 waiting_reaches p (watches p.types (Some w)) apart (is_watched (Some w)) (is_unnamed p.types (Some w)) behind lower c.number c.b
-                (Part c.o c.place) (Awaits (Names c.o) Creation done c.of part c.tasks) k started refl within there in
+                (Part c.o c.place) (Awaits (Names c.o) how done c.of part c.tasks) k started refl within there in
                 rw (c.is, is) (record {
                   ghosts_there = reaching.ghosts_there;
                   are_ghosts = reaching.are_ghosts;
@@ -265,8 +275,6 @@ module _ (program : Program) (a : Activation Value) (rest : List (Activation Val
                   jumps = reaching.jumps;
                   seeks = reaching.seeks;
                 })
-            by (begins Copy done) inside' waits = absurd inside'
-            by (begins (Adjustment number) done) inside' waits = absurd inside'
             by (ends cause) freed' (is, inside) =
                 let left : Control = treating (Names c.o) (ends cause) c.tasks k in
                 let first : Reaches apart (operating named c.number c.b (Part c.o c.place) c.behind started) = rw c.is at begun in
@@ -443,12 +451,26 @@ module _ (program : Program) (a : Activation Value) (rest : List (Activation Val
         begins_as : IsUsedAs p c.of c.number c.treatment c.b → Went program s.heap e after
         begins_as (inl plain) = begins_quiet plain
         begins_as (inr (inl (touches, may, frugal_body, stores))) = begins_frugal touches may frugal_body stores
-        begins_as (inr (inr (copies, tracks, own))) = absurd (inside_adjusts c.treatment inside_it copies)
+        begins_as (inr (inr (copies, tracks, own))) = absurd (none_adjusts_own p (untracked_so c.treatment is_treated copies) c.of c.number own)
+
+        -- Where what is treated is a copy, the program copies records with controlled parts.
+        copied_here : AdjustsCopy c.treatment → copies_parts p ≡ true
+        copied_here copies =
+            treats_copied program whole grounds v treatment tasks k refl
+            (subst (λ (way : Treatment). adjusts_copy way ≡ true) c.operated.0 (copy_told c.treatment copies))
 
         begins_there : Went program s.heap e after
         begins_there =
-            begins_as (used_as program (treats_in_use program whole grounds whole.control refl tt) grounds.well c.of c.number c.b c.there c.treatment
-            (λ copies. absurd (inside_adjusts c.treatment inside_it copies)) c.called)
+            begins_as (used_as program (treats_in_use program whole grounds whole.control refl tt) grounds.well c.of c.number c.b c.there c.treatment copied_here c.called)
+
+    -- No Adjust is called that tracks components.
+    none_tracks : (e : Event) (after : State) → (c : BeginsAdjust treater a rest s program.types.items (body_forms program) v k Operated e after) → GoesThere after → ⊥
+    none_tracks e after c goes =
+        let more : length after.activations ≡ suc (length (a ∷ rest)) = ap (λ (t : State). length t.activations) c.is in
+        let treated : Treated (begins c.by c.done) = subst Treated (sym c.operated.0) (treated_here after more goes) in
+        c.owns
+        (next_owns_none program grounds.well (untracked_so (begins c.by c.done) treated (copy_begins c.by c.done c.copies)) a.procedure f.suspensions c.to.x.cell.access
+        c.to.record_type c.of c.part c.tasks c.to.left)
 
     -- Whatever comes next.
     treated_went : (n : Next) → next program.types.items (body_forms program) whole ≡ n → TreatedIn treater a rest s program.types.items (body_forms program) k Operated v n
@@ -456,8 +478,7 @@ module _ (program : Program) (a : Activation Value) (rest : List (Activation Val
     treated_went (halts halt) is t goes still = t
     treated_went (moves e after) is (inl st) goes still = inl (goes_here e after st goes still)
     treated_went (moves e after) is (inr (inl c)) goes still = begins_there e after c (treated_here after (ap (λ (t : State). length t.activations) c.is) goes) still is
-    treated_went (moves e after) is (inr (inr c)) goes still =
-        absurd (copies_outside c.by c.done c.copies (subst IsInside (sym c.operated.0) (inside_so treatment (treated_here after (ap (λ (t : State). length t.activations) c.is) goes))))
+    treated_went (moves e after) is (inr (inr c)) goes still = absurd (none_tracks e after c goes)
     treated_went (tells request e after) is t goes still = absurd t
     treated_went (asks request answered) is t goes still = absurd t
     treated_went (picks n taken) is t goes still = λ i lt. inl (goes_here Quiet (taken i) (t i lt) (goes i lt) (still i lt))

@@ -23,9 +23,9 @@ use Rattle.ada_program.specs.ProgramForm.{PartForm, TypeForm, record_of, access_
 use Rattle.ada_program.specs.WellFormed.{IsWellFormed, finalization_in, has_operations, have_operations, overrides_rightly, is_operation, callable_in, profile_of, is_inherited, variable_kind}
 use Rattle.ada_flow.specs.Flow.{is_owning_part, object_record, is_procedure, tracked_of, tracked_by_adjust, tracks_of}
 use Rattle.ada_flow.specs.Tracking.{no_tracks, tracks_behind, access_numbers, number_within}
-use Rattle.ada_quiet.specs.Apart.{is_this_one, is_adjust_of, is_tracker, body_calls_apart, overrides_apart, operations_apart, operations_stand_apart}
+use Rattle.ada_quiet.specs.Apart.{is_this_one, is_adjust_of, is_tracker, body_calls_apart, overrides_apart, operations_apart, operations_stand_apart, leaves_access}
 use Rattle.ada_quiet.specs.Idle.{makes_parts, copies_parts}
-use Rattle.ada_quiet.specs.InUse.{leaves_access, tracks_nothing, uses_adjust, may_be_frugal, uses_operations, operations_are_idle, operations_may_be_called, operations_are_in_use, is_copied_in_order, may_track, adjusts_nothing, operations_stand_in_order}
+use Rattle.ada_quiet.specs.InUse.{tracks_nothing, uses_adjust, may_be_frugal, uses_operations, operations_are_idle, operations_may_be_called, operations_are_in_use, is_copied_in_order, may_track, adjusts_nothing, operations_stand_in_order}
 use Rattle.ada_quiet.specs.Quiet.{has_access, is_of_access, operation_body}
 use Rattle.ada_sound.proofs.OperationStarts.{apart}
 use Rattle.ada_sound.specs.Untracked.{AdjustsNoOwners}

@@ -5,16 +5,18 @@ use Rattle.ada_program.specs.declared.program.Procedure.{Procedure}
 use Rattle.ada_program.specs.declared.program.TypeDefinition.{TypeDefinition}
 use Rattle.ada_program.specs.Kept.{types_in}
 use Rattle.ada_program.specs.ProgramForm.{body_form}
+use Rattle.ada_quiet.specs.Apart.{leave_access}
 use Rattle.ada_quiet.specs.Calm.{unadjusted_types, unfinalized_types}
 use Rattle.ada_quiet.specs.Frugal.{Thrift, is_frugal_body, frugal_from}
 use Rattle.ada_quiet.proofs.frugal.frugal_by.Goals as goal
 
 -- what bodies go by that are called, where this is known of the types, and of the procedures before them
-abbrev called_by : List TypeDefinition → (unadjusted unfinalized frugal : List Bool) → Thrift
-called_by types unadjusted unfinalized frugal = record {
+abbrev called_by : List TypeDefinition → (unadjusted unfinalized : List Bool) → (untracked : Bool) → (frugal : List Bool) → Thrift
+called_by types unadjusted unfinalized untracked frugal = record {
   types = types_in types;
   unadjusted = unadjusted;
   unfinalized = unfinalized;
+  untracked = untracked;
   procedures = frugal;
   operation = false;
 }
@@ -22,7 +24,8 @@ called_by types unadjusted unfinalized frugal = record {
 -- what is known of one more, and what is left behind it, tell of all
 next : (types : List TypeDefinition) (frugal more : List Bool) (here : Bool) (ps : List Procedure) (n : ℕ) (b : Procedure)
     (all : List Bool) → n < length ps → b ≡ get_or ps n b
-    → here ≡ is_frugal_body (called_by types (unadjusted_types (types_in types)) (unfinalized_types (types_in types)) frugal) (body_form b) → more ≡ frugal ++ here ∷ []
+    → here ≡ is_frugal_body (called_by types (unadjusted_types (types_in types)) (unfinalized_types (types_in types)) (leave_access (types_in types)) frugal) (body_form b)
+    → more ≡ frugal ++ here ∷ []
     → frugal_from (types_in types) frugal (map body_form (drop n ps)) ≡ all
     → frugal_from (types_in types) more (map body_form (drop (n + 1) ps)) ≡ all
 next types frugal more here ps n b all inside there is grown before =
@@ -41,12 +44,14 @@ procedures-preserved c =
     let inside = subst (λ (ps : List Procedure). index < length ps) c.deref-procedure-items.ensures.value c.procedures-test.true in
     let there = subst (λ (ps : List Procedure). b ≡ get_or ps index b) c.deref-procedure-items.ensures.value c.procedure-item.is in
     let is = c.is_frugal_body-is_frugal.ensures
-    ∙ ap (λ (types : List TypeDefinition). is_frugal_body (called_by types c.args.unadjusted.now c.args.unfinalized.now c.deref-in-procedures.result.now) (body_form b))
+    ∙ ap (λ (types : List TypeDefinition). is_frugal_body (called_by types c.args.unadjusted.now c.args.unfinalized.now c.args.untracked c.deref-in-procedures.result.now) (body_form b))
     c.deref.ensures.value
-    ∙ ap (λ (marks : List Bool). is_frugal_body (called_by program.types.items c.args.unadjusted.now c.args.unfinalized.now marks) (body_form b))
+    ∙ ap (λ (marks : List Bool). is_frugal_body (called_by program.types.items c.args.unadjusted.now c.args.unfinalized.now c.args.untracked marks) (body_form b))
     c.deref-in-procedures.ensures.value
-    ∙ ap (λ (told : List Bool). is_frugal_body (called_by program.types.items told c.args.unfinalized.now frugal) (body_form b)) c.requires.adjusted
-    ∙ ap (λ (told : List Bool). is_frugal_body (called_by program.types.items (unadjusted_types (types_in program.types.items)) told frugal) (body_form b))
-    c.requires.finalized in
+    ∙ ap (λ (told : List Bool). is_frugal_body (called_by program.types.items told c.args.unfinalized.now c.args.untracked frugal) (body_form b)) c.requires.adjusted
+    ∙ ap (λ (told : List Bool). is_frugal_body (called_by program.types.items (unadjusted_types (types_in program.types.items)) told c.args.untracked frugal) (body_form b))
+    c.requires.finalized
+    ∙ ap (λ (told : Bool). is_frugal_body (called_by program.types.items (unadjusted_types (types_in program.types.items)) (unfinalized_types (types_in program.types.items)) told frugal) (body_form b))
+    c.requires.tracked in
     next program.types.items frugal c.push.new.self.items c.is_frugal_body-is_frugal.result program.procedures.items index b _ inside there is
     c.in_ok-push.ensures.items c.procedures.invariant
