@@ -155,17 +155,31 @@ fn is_unfinalized(thrift: Thrift<'_>, record: TypeNo) -> bool
     is_known_calm(thrift.unfinalized, finalization_of(thrift.types, record.0))
 }
 
-/// Whether the body is that of an operation, and no Adjust is called for a record with controlled parts that it assigns to as a whole
+/// Whether nothing is called as it is adjusted, either.
+fn is_inert(thrift: Thrift<'_>, record: TypeNo) -> bool
+    ensures { result ≡ rules.is_inert (thrift_in thrift.entry) record.0 }
+{
+    is_unfinalized(thrift, record) && is_unadjusted(thrift, record)
+}
+
+/// Whether another record may be copied to one of a type: no Adjust tracks, or none is called for it (5.2, 7.6).
+fn is_copied(thrift: Thrift<'_>, record: TypeNo) -> bool
+    ensures { result ≡ rules.is_copied (thrift_in thrift.entry) record.0 }
+{
+    thrift.untracked || is_unadjusted(thrift, record)
+}
+
+/// Whether the body is that of an operation, and another record may be copied to one with controlled parts that it assigns to as a whole
 /// (5.2), which lies at hand: in a record variable, and no access value is followed on the way (4.1). If that is the formal parameter,
-/// which is the first variable, no Finalize is called for it, either, and it is not that as a whole.
+/// which is the first variable, nothing is called for it at all, and it is not that as a whole.
 fn assigns_at_hand(thrift: Thrift<'_>, target: &RecordPath) -> bool
     ensures { result ≡ rules.assigns_at_hand (thrift_in thrift.entry) (record_path_form target.now) }
 {
     thrift.operation
-        && is_unadjusted(thrift, target.record)
+        && is_copied(thrift, target.record)
         && !record_path_raises(target)
         && (target.object.root.0 != 0
-            || (is_unfinalized(thrift, target.record) && target.part.0 != 0))
+            || (is_inert(thrift, target.record) && target.part.0 != 0))
 }
 
 /// Whether a record that is assigned to as a whole lies so, if it has controlled parts; and else whether nothing is copied into it that

@@ -34,9 +34,13 @@ is_unadjusted allowance t = is_known_calm allowance.unadjusted (finalization_of 
 abbrev pub is_unfinalized : Allowance → (record_type : ℕ) → Bool
 is_unfinalized allowance t = is_known_calm allowance.unfinalized (finalization_of allowance.types t)
 
--- The body of an operation itself may assign to a record as a whole (5.2) for which no Adjust is called.
+-- Nothing is called for it, in neither way.
+abbrev pub is_inert : Allowance → (record_type : ℕ) → Bool
+is_inert allowance t = is_unfinalized allowance t && is_unadjusted allowance t
+
+-- The body of an operation itself may assign to a record as a whole (5.2) where no Adjust tracks, or for which none is called.
 abbrev pub may_assign : Allowance → (own : Bool) → (record_type : ℕ) → Bool
-may_assign allowance own t = allowance.treats_parts && own && is_unadjusted allowance t
+may_assign allowance own t = allowance.treats_parts && own && ((allowance.objects && allowance.untracked) || is_unadjusted allowance t)
 
 -- Such a body may free objects of an access type (13.11.2): they have no controlled parts, or it may treat those that have some.
 abbrev pub may_treat : Allowance → (access : ℕ) → Bool
@@ -191,8 +195,9 @@ module _ (p : ProgramForm) (own : Bool) where
       → (not parted || may_assign (allowance_of p) own target.record_type) ≡ true
   assigned_thrifty target items false is = refl
   assigned_thrifty target items true is =
-      let three = and_parts (own && is_unadjusted (allowance_of p) target.record_type && not (record_path_raises target)) _ is in
-      let two = and_parts (own && is_unadjusted (allowance_of p) target.record_type) (not (record_path_raises target)) three.0 in
+      let copied = leave_access p.types || is_unadjusted (allowance_of p) target.record_type in
+      let three = and_parts (own && copied && not (record_path_raises target)) _ is in
+      let two = and_parts (own && copied) (not (record_path_raises target)) three.0 in
       two.0
 
   mutual
@@ -261,7 +266,7 @@ module _ (allowance : Allowance) where
   assigned_more t true may same is = refl
   assigned_more t false may same is = absurd (none allowance.treats_parts (sym same ∙ is))
     where
-      none : (treats_parts : Bool) → (treats_parts && false && is_unadjusted allowance t) ≡ true → ⊥
+      none : (treats_parts : Bool) → (treats_parts && false && ((allowance.objects && allowance.untracked) || is_unadjusted allowance t)) ≡ true → ⊥
       none true is' = cc is'
       none false is' = cc is'
 

@@ -16,7 +16,7 @@ use Rattle.ada_quiet.proofs.FrugalAt.{operation_at}
 use Rattle.ada_quiet.proofs.QuietFrugal.{frugal_body}
 use Rattle.ada_quiet.specs.Apart.{is_bare_item}
 use Rattle.ada_quiet.specs.Calm.{is_known_calm, unfinalized_types}
-use Rattle.ada_quiet.specs.Frugal.{Thrift, assigns_at_hand, is_unadjusted, are_frugal_declarations, is_frugal_stmt, are_frugal, are_frugal_branches, are_frugal_handlers, is_frugal_body, is_frugal_operation, thrift_of}
+use Rattle.ada_quiet.specs.Frugal.{Thrift, assigns_at_hand, is_unadjusted, are_frugal_declarations, is_frugal_stmt, are_frugal, are_frugal_branches, are_frugal_handlers, is_frugal_body, is_frugal_operation, thrift_of, is_inert, is_copied}
 use Rattle.ada_quiet.specs.InUse.{adjusts_alone, adjusts_nothing, may_adjust_frugally, may_be_frugal, may_track, operations_may_be_called, uses_adjust, uses_called_adjust, uses_finalize, uses_initialize, uses_operations}
 use Rattle.ada_quiet.specs.Quiet.{has_access, operation_body, is_plain_body, is_plain_operation, is_quiet_body, is_quiet_operation}
 use Rattle.ada_quiet.specs.Simple.{is_simple_body, is_simple_operation}
@@ -37,18 +37,18 @@ at_hand within target straight inside = by target.object.of_record target.object
 
 -- A frugal body assigns so.
 module _ (thrift : Thrift) where
-  -- Inside of formal parameters it assigns to records for which no Finalize is called.
+  -- Inside of formal parameters it assigns to records for which nothing is called.
   abbrev within : ℕ → Bool
-  within t = is_known_calm thrift.unfinalized (finalization_of thrift.types t)
+  within t = is_inert thrift t
 
   record_inside : (target : RecordPathForm) (items : List ItemForm) (parted : Bool)
       → (if parted then assigns_at_hand thrift target else list_all (is_bare_item thrift.types) items) ≡ true → (not parted || lies_at_hand within target) ≡ true
   record_inside target items false is = refl
   record_inside target items true is =
       let inside = not (target.object.root == 0) || (within target.record_type && not (target.part == 0)) in
-      let unadjusted = is_unadjusted thrift target.record_type in
-      let three = and_parts (thrift.operation && unadjusted && not (record_path_raises target)) inside is in
-      let two = and_parts (thrift.operation && unadjusted) (not (record_path_raises target)) three.0 in
+      let copied = is_copied thrift target.record_type in
+      let three = and_parts (thrift.operation && copied && not (record_path_raises target)) inside is in
+      let two = and_parts (thrift.operation && copied) (not (record_path_raises target)) three.0 in
       at_hand within target two.1 three.1
 
   mutual
@@ -94,7 +94,7 @@ module _ (thrift : Thrift) where
 module _ (p : ProgramForm) where
   -- Inside of formal parameters.
   abbrev inside_formals : ℕ → Bool
-  inside_formals t = is_known_calm (unfinalized_types p.types) (finalization_of p.types t)
+  inside_formals t = is_inert (thrift_of p) t
 
   -- Whatever is said of its body.
   body_of : (P : BodyForm → Type 0) → ((b : BodyForm) → P b → body_assigns_inside p.types inside_formals b ≡ true) → (procedure : ProcedureNo)
@@ -178,5 +178,5 @@ module _ (p : ProgramForm) where
 
 -- So do all operations of a program, where they may be called.
 pub operations_inside : (p : ProgramForm) → operations_may_be_called p ≡ true
-    → operations_assign_inside p (λ t. is_known_calm (unfinalized_types p.types) (finalization_of p.types t)) ≡ true
+    → operations_assign_inside p (λ t. is_inert (thrift_of p) t) ≡ true
 operations_inside p called = types_inside p p.types called

@@ -59,11 +59,11 @@ IsAssigned (Freeing number) = ⊥
 IsAssigned (Assigning number) = Unit {0}
 IsAssigned (Undoing number) = ⊥
 
--- Or it is initialized, in the body of another operation that allocates or declares it (4.8, 3.3.1), or adjusted as a declared copy.
+-- Or it is initialized, in the body of another operation that allocates or declares it (4.8, 3.3.1), or adjusted as a copy.
 abbrev pub IsInside : Treatment → Type 0
 IsInside (begins Creation done) = Unit {0}
 IsInside (begins Copy done) = Unit {0}
-IsInside (begins (Adjustment number) done) = ⊥
+IsInside (begins (Adjustment number) done) = Unit {0}
 IsInside (ends cause) = (IsEnded (ends cause) ⊎ IsLeft (ends cause)) ⊎ IsAssigned cause
 
 -- A master of such a body owns variables, and record objects, where it may declare some.
@@ -144,9 +144,9 @@ RecordIsInside frugal tds =
 
 -- What it takes to assign to one.
 pub assigned_parts : (frugal : Allowance) (own : Bool) (t : ℕ) → may_assign frugal own t ≡ true
-    → (frugal.treats_parts ≡ true) × (own ≡ true) × (is_unadjusted frugal t ≡ true)
+    → (frugal.treats_parts ≡ true) × (own ≡ true) × (((frugal.objects && frugal.untracked) || is_unadjusted frugal t) ≡ true)
 assigned_parts frugal own t may =
-    let two = and_parts (frugal.treats_parts && own) (is_unadjusted frugal t) may in
+    let two = and_parts (frugal.treats_parts && own) ((frugal.objects && frugal.untracked) || is_unadjusted frugal t) may in
     let one = and_parts frugal.treats_parts own two.0 in
     (one.0, one.1, two.1)
 
@@ -268,11 +268,12 @@ EndsOperation frugal k = (frugal.treats_parts ≡ true) × NoOperationRunsOn (fi
 -- And with one of which a record is assigned to.
 abbrev pub ReplacesOperation : Allowance → Control → Type 0
 ReplacesOperation frugal k = (frugal.treats_parts ≡ true) × (replaced_in k ≡ finalized_before k) × NoOperationRunsOn (finalized_before k) k
--- An object is created (3.3.1, 4.8), by default, or as a copy, where no Adjust tracks.
+
+-- An object is created (3.3.1, 4.8), by default, or as a copy, or another one is copied to a record of it, where no Adjust tracks.
 abbrev pub IsCreated : Allowance → Birth → Type 0
 IsCreated frugal Creation = Unit {0}
 IsCreated frugal Copy = (frugal.untracked ≡ true)
-IsCreated frugal (Adjustment number) = ⊥
+IsCreated frugal (Adjustment number) = (frugal.untracked ≡ true)
 
 -- A new object begins, and behind that no operation of it runs.
 abbrev pub BeginsThere : Allowance → Value → Birth → Control → Type 0
@@ -509,10 +510,10 @@ adjusting_frugal frugal back among v by done (task ∷ tasks) k ms adjusting q =
 -- So it is where its components are stored first,
 pub storing_frugal :
     (frugal : Allowance) (back : Control) (among : List Value) (v : Value) (first count : ℕ) (by : Birth) (done : List Part) (tasks : List Task) (k : Control) (ms : List Master)
-    → AdjustsThere frugal v by tasks k → FrugalLeads frugal back among k ms
+    → BeginsThere frugal v by k ⊎ AdjustsThere frugal v by tasks k → FrugalLeads frugal back among k ms
     → FrugalBegins frugal back among (StoresRecord v first count ∷ treating v (begins by done) tasks k) ms
 storing_frugal frugal back among v first count by done [] k ms adjusting q = inr q
-storing_frugal frugal back among v first count by done (task ∷ tasks) k ms adjusting q = inl (refl, (inr adjusting, q))
+storing_frugal frugal back among v first count by done (task ∷ tasks) k ms adjusting q = inl (refl, (adjusting, q))
 
 -- and where it is finalized before.
 pub finalizing_frugal :

@@ -46,7 +46,7 @@ use Rattle.ada_typed.proofs.Targets.{component_there}
 use Rattle.ada_typed.proofs.Values as typing
 use Rattle.ada_typed.proofs.Values.{OperandKind, of_kind, AreComputed}
 use Rattle.ada_scopes.specs.Scopes.{is_innermost}
-use Rattle.ada_sound.proofs.Allowance.{Allowance, may_create, may_treat, are_thrifty, is_unfinalized}
+use Rattle.ada_sound.proofs.Allowance.{Allowance, may_create, may_treat, are_thrifty, is_unfinalized, is_inert}
 use Rattle.ada_sound.proofs.Assigned.{access_from, this_is}
 use Rattle.ada_sound.proofs.Calm.{ends_operation, operation_ends_there}
 use Rattle.ada_sound.proofs.Fits.{place_at}
@@ -326,10 +326,10 @@ module _ (frugal : Allowance) (tds : List TypeDefinition) where
   StmtIsFreely (frees access path) k heap places = path.selectors ≡ [] → IsFreely k (place_at places path.root) (standing heap (place_at places path.root))
   StmtIsFreely f k heap places = Unit {0}
 
-  -- Where the body of an operation assigns to a record for which a Finalize may be called, no operation runs of the object in which that lies (5.2).
+  -- Where the body of an operation assigns to a record for which an operation may be called, none runs of the object in which that lies (5.2).
   abbrev pub IsBeside : (record_type : ℕ) → Control → (operands : List Value) → Type 0
   IsBeside t k operands =
-      own_in k ≡ true → is_unfinalized frugal t ≡ false → (o : Id) (place : Place) → first_or Null (older operands) ≡ Part o place → NoOperationRunsOn (Names o) k
+      own_in k ≡ true → is_inert frugal t ≡ false → (o : Id) (place : Place) → first_or Null (older operands) ≡ Part o place → NoOperationRunsOn (Names o) k
 
   abbrev pub AssignsBeside : Control → (operands : List Value) → Type 0
   AssignsBeside (Assigns t ∷ k) operands = IsBeside t k operands

@@ -1,5 +1,6 @@
 -- Each state that a run comes to has what steps rest on: finalization leaves it so (7.6, 7.6.1).
 
+use Rattle.ada_quiet.specs.Frugal.{is_inert, thrift_of}
 use Rattle.std.proofs.Common.{◌∷◌}
 use Rattle.ada_program.specs.declared.program.Program.{Program}
 use Rattle.ada_program.specs.ProgramForm.{program_form}
@@ -41,9 +42,9 @@ grounds program s sound = record {
   departed = λ o x gone. none_departed s.heap (words_out program s sound.reached) o x gone;
   exist = λ v treatment tasks k is alone. twice.values_exist program sound.reached.0 sound.reached.1 s sound.reached.2 v treatment tasks k is alone;
   assigned = λ v number tasks first t k is alone.
-      assignments_stand program sound.well (λ t. is_known_calm (unfinalized_types (program_form program).types) (finalization_of (program_form program).types t)) (operations_inside (program_form program) (treated_in_use program s sound.in_use sound.idle (Treats v (ends (Assigning number)) tasks ∷ Copies first t ∷ k) is tt))
+      assignments_stand program sound.well (λ t. is_inert (thrift_of (program_form program)) t) (operations_inside (program_form program) (treated_in_use program s sound.in_use sound.idle (Treats v (ends (Assigning number)) tasks ∷ Copies first t ∷ k) is tt))
       sound.reached.0 sound.reached.1 s sound.reached.2 v number tasks first t k is alone;
-  beside = λ runs t k is. beside_run_alone program sound.well (λ u. is_known_calm (unfinalized_types (program_form program).types) (finalization_of (program_form program).types u))
+  beside = λ runs t k is. beside_run_alone program sound.well (λ u. is_inert (thrift_of (program_form program)) u)
       (operations_inside (program_form program) (assigned_in_use program s sound.in_use sound.idle t k is)) sound.reached.0 sound.reached.1 s sound.reached.2 runs t k is;
   untreated_end = λ still v w cause tasks k is. standing.untreated_end program sound.reached.0 sound.reached.1 s still sound.reached.2 v w cause tasks k is;
   untreated_start = λ still v by done tasks k is. standing.untreated_start program sound.reached.0 sound.reached.1 s still sound.reached.2 v by done tasks k is;

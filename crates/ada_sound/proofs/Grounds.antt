@@ -1,6 +1,7 @@
 -- What each step rests on: what is known of the program, typing, and what finalization leaves of objects. It holds in each state that a run comes to, and in one
 -- that stands for such a state.
 
+use Rattle.ada_quiet.specs.Frugal.{is_inert, thrift_of}
 use Rattle.std.proofs.Common.{◌≡◌, ℕ, Bool, true, false, List, [], ◌∷◌, ◌&&◌, refl, subst}
 use Rattle.std.specs.Prelude.{ℤ, Some}
 use Rattle.ada_deeds.specs.Implicit.{implicit_of}
@@ -125,9 +126,9 @@ pub record Grounds (program : Program) (s : State) : Type 0 where
   -- so has a record to which the body of an operation assigns, behind which no other one of its object runs
   pub assigned : (v : Value) (number : ℕ) (tasks : List Task) (first t : ℕ) (k : Control) → s.control ≡ frame.Treats v (ends (Assigning number)) tasks ∷ frame.Copies first t ∷ k
       → RunsAlone v k → Halts program s (Erroneous FinalizesTwice) → ⊥
-  -- and where it assigns to one for which a Finalize may be called, no operation runs of the object in which that lies
+  -- and where it assigns to one for which an operation may be called, none runs of the object in which that lies
   pub beside : s.mode ≡ Running → (t : ℕ) (k : Control) → s.control ≡ frame.Assigns t ∷ k → is_of_operation k ≡ true
-      → is_known_calm (unfinalized_types (program_form program).types) (finalization_of (program_form program).types t) ≡ false → (o : Id) (place : Place)
+      → is_inert (thrift_of (program_form program)) t ≡ false → (o : Id) (place : Place)
       → first_or Null (older (operands s)) ≡ Part o place → NoOperationRunsOn (Names o) k
   -- where no operation runs, nothing is treated behind what is treated, but a record that is assigned to
   pub untreated_end : NoOperationRuns s.control → (v w : Value) (cause : Cause) (tasks : List Task) (k : Control)

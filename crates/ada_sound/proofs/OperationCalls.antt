@@ -63,7 +63,7 @@ ending_goes known o cause tasks (Ends w ∷ k) behind heap places ms is (same, e
 ending_goes known o cause tasks (f ∷ k) behind heap places ms is none = absurd none
 
 -- Where an object is freed, undone or left, it ends behind that; where a record of it is assigned to, what is copied is stored in it; and where it is allocated or
--- declared, also as a copy, what is left of it begins.
+-- declared, also as a copy, or adjusted, what is left of it begins.
 inside_goes :
     (known : Known) (types : List TypeForm) (o : Id) (of : ℕ) (treatment : Treatment) (tasks : List Task) (k behind : Control) (heap : List Object)
     (places operands : List Value) (ms : List Master) → IsInside treatment → CopiesInto treatment (Names o) k
@@ -72,7 +72,8 @@ inside_goes known types o of (begins Creation done) tasks k behind heap places o
     inr (inl (record { by = Creation; done = done; of = of; part = part; tasks = tasks; rest = k; is = is }))
 inside_goes known types o of (begins Copy done) tasks k behind heap places operands ms inside into (part, is) treats =
     inr (inl (record { by = Copy; done = done; of = of; part = part; tasks = tasks; rest = k; is = is }))
-inside_goes known types o of (begins (Adjustment number) done) tasks k behind heap places operands ms inside into waits treats = absurd inside
+inside_goes known types o of (begins (Adjustment number) done) tasks k behind heap places operands ms inside into (part, is) treats =
+    inr (inl (record { by = Adjustment number; done = done; of = of; part = part; tasks = tasks; rest = k; is = is }))
 inside_goes known types o of (ends (Leaving m item)) tasks k behind heap places operands ms inside into (is, copied) treats =
     inl (ending_goes known o (Leaving m item) tasks k behind heap places ms is treats)
 inside_goes known types o of (ends (Freeing number)) tasks k behind heap places operands ms inside into (is, copied) treats =

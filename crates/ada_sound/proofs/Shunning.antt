@@ -17,7 +17,7 @@ use Rattle.ada_quiet.specs.Bare.{has_bare_objects}
 use Rattle.ada_quiet.specs.Idle.{has_parts, holds_parts}
 use Rattle.ada_quiet.specs.Apart.{is_bare_item, leave_access}
 use Rattle.ada_quiet.specs.Calm.{is_known_calm, unadjusted_types, unfinalized_types}
-use Rattle.ada_quiet.specs.Frugal.{assigns_at_hand, allocates_frugally, is_bare_initial, is_copied_initial, is_unfinalized, is_unadjusted, is_unadjusted_named, is_unadjusted_initial, thrift_of, frugal_procedures, is_frugal_declaration, are_frugal_declarations, is_frugal_stmt, are_frugal, are_frugal_branches, are_frugal_handlers, is_frugal_body}
+use Rattle.ada_quiet.specs.Frugal.{assigns_at_hand, allocates_frugally, is_bare_initial, is_copied_initial, is_unfinalized, is_unadjusted, is_unadjusted_named, is_unadjusted_initial, thrift_of, frugal_procedures, is_frugal_declaration, are_frugal_declarations, is_frugal_stmt, are_frugal, are_frugal_branches, are_frugal_handlers, is_frugal_body, is_inert, is_copied}
 use Rattle.ada_deeds.specs.declared.deed.Callee.{Callee}
 use Rattle.ada_deeds.specs.declared.deed.Callee.TheVariants as callee
 use Rattle.ada_deeds.specs.declared.deed.Deed.{Deed}
@@ -384,17 +384,20 @@ module _ (p : ProgramForm) (shuns : ℕ → Bool) where
           assigned None is h = refl
           assigned (Some f) is h =
               let t = target.record_type in
-              let calm = is_unadjusted (thrift_of p) t in
+              let known = is_copied (thrift_of p) t in
               let near = not (record_path_raises target) in
               let three =
-              and_parts (true && calm && near) (not (target.object.root == 0) || (is_unfinalized (thrift_of p) t && not (target.part == 0))) h in
-              let two = and_parts (true && calm) near three.0 in
+              and_parts (true && known && near) (not (target.object.root == 0) || (is_inert (thrift_of p) t && not (target.part == 0))) h in
+              let two = and_parts (true && known) near three.0 in
               let adjusted = λ (d : Deed). parts_do (does_by p d) Adjust (Some t) in
               let ended_so = λ (d : Deed). parts_do (does_by p d) Finalize (Some t) in
               let evaluated = λ (d : Deed). record_path_does p.types variables d target || items_do p.types variables (does_by p d) d items in
               and_from (apart.assigns t) (apart.copies t)
               (overwritten t f is (second adjusted ended_so (second evaluated (λ d. adjusted d || ended_so d) spares)))
-              (quietly t (and_parts true calm two.0).1)
+              (elim (or_cases (leave_access p.types) (is_unadjusted (thrift_of p) t) (and_parts true known two.0).1) [
+                | inl none ↦ copied none t (first adjusted ended_so (second evaluated (λ d. adjusted d || ended_so d) spares))
+                | inr calm ↦ quietly t calm
+              ])
       statement_shaped inside (frees access path) fits frugal spares =
           let leads = path_shuns p.types (λ t. false) apart variables path in
           let kind = path_kind p.types variables path in

@@ -70,7 +70,7 @@ module _ (program : Program) (s : State) (f : Touching program s) (grounds : Gro
       freed_inside known s.heap (places s) (operands s) s.masters o s.control
       (subst (λ (mode : Mode). ReadyIn known mode s.control s.heap (places s) (operands s) s.masters) runs f.ready.1) freed outside
 
-  -- Where the body of an operation assigns next to a record for which a Finalize may be called, no operation of its object runs.
+  -- Where the body of an operation assigns next to a record for which an operation may be called, none of its object runs.
   beside_next : s.mode ≡ Running → AssignsBeside (thrifty program s f) program.types.items s.control (operands_of s.activations)
   beside_next runs = by s.control refl
     where

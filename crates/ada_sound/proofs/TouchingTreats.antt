@@ -132,7 +132,7 @@ module _ (program : Program) (a : Activation Value) (rest : List (Activation Val
     inside_so : (way : Treatment) → Treated way → IsInside way
     inside_so (begins Creation done) beginning = tt
     inside_so (begins Copy done) beginning = tt
-    inside_so (begins (Adjustment number) done) beginning = absurd beginning.0.0
+    inside_so (begins (Adjustment number) done) beginning = tt
     inside_so (ends cause) (inl ending) = inl (inl ending.0.0)
     inside_so (ends cause) (inr (inl leaving)) = inl (inr leaving.0.0)
     inside_so (ends cause) (inr (inr replacing)) = inr replacing.0.0
@@ -141,7 +141,7 @@ module _ (program : Program) (a : Activation Value) (rest : List (Activation Val
     untracked_so : (way : Treatment) → Treated way → AdjustsCopy way → tracks_nothing p ≡ true
     untracked_so (begins Creation done) beginning copies = absurd copies
     untracked_so (begins Copy done) beginning copies = beginning.0.0
-    untracked_so (begins (Adjustment number) done) beginning copies = absurd beginning.0.0
+    untracked_so (begins (Adjustment number) done) beginning copies = beginning.0.0
     untracked_so (ends cause) ended copies = absurd copies
 
     -- It goes on in the body that frees, allocates or declares it, or that leaves its master, or out of whose beginning an exception has come.
