@@ -54,23 +54,24 @@ operated_here types heap [] acts h = tt
 operated_here types heap (frame.Returns actuals references ∷ k) acts h = h.0
 operated_here types heap (f ∷ k) acts h = operated_here types heap k acts h
 
-module _ (types : List TypeDefinition) where
+module _ (types : List TypeDefinition) (within : ℕ → Bool) where
   -- Where no operation waits, any reference will do.
-  any_operated : (j : List (Frame Value)) (t : ℕ) → ((w : Value) (left : List Task) → LiesInOperated types j w left) → (v : Value) → Operated types j t v
-  any_operated j t any Null = tt
-  any_operated j t any (Names o) = tt
-  any_operated j t any (Scalar v) = tt
-  any_operated j t any (Inside o place) = inl (any (Names o) (record_tasks types t PartsFirst place.part))
+  any_operated : (j : List (Frame Value)) (t : ℕ) → ends_operation j ≡ false → ((w : Value) (left : List Task) → LiesInOperated types j w left) → (v : Value) → Operated types within j t v
+  any_operated j t none any Null = tt
+  any_operated j t none any (Names o) = tt
+  any_operated j t none any (Scalar v) = tt
+  any_operated j t none any (Inside o place) =
+      (inl (any (Names o) (record_tasks types t PartsFirst place.part)), λ ends. absurd (cc (none, ends)))
 
   module _ (p : RecordPathForm) (parts : has_parts types p.record_type ≡ true) where
     -- The target is found in what a variable holds; or behind access values, where any reference will do.
     abbrev TargetFits : List (Frame Value) → (selectors : List ℕ) → Value → Type 0
-    TargetFits j [] v = Operated types j p.record_type (refer (whole v) (place_in named v [] p))
-    TargetFits j (c ∷ cs) v = (w : Value) → Operated types j p.record_type w
+    TargetFits j [] v = Operated types within j p.record_type (refer (whole v) (place_in named v [] p))
+    TargetFits j (c ∷ cs) v = (w : Value) → Operated types within j p.record_type w
 
-    any_fits : (j : List (Frame Value)) → ((w : Value) (left : List Task) → LiesInOperated types j w left) → (cs : List ℕ) (v : Value) → TargetFits j cs v
-    any_fits j any [] v = any_operated j p.record_type any (refer (whole v) (place_in named v [] p))
-    any_fits j any (c ∷ cs) v = any_operated j p.record_type any
+    any_fits : (j : List (Frame Value)) → ends_operation j ≡ false → ((w : Value) (left : List Task) → LiesInOperated types j w left) → (cs : List ℕ) (v : Value) → TargetFits j cs v
+    any_fits j none any [] v = any_operated j p.record_type none any (refer (whole v) (place_in named v [] p))
+    any_fits j none any (c ∷ cs) v = any_operated j p.record_type none any
 
     -- In the formal parameter.
     inner_lies : (of part : ℕ) → 0 < p.part → IsWithin types of p → (n : ℕ)
@@ -84,11 +85,11 @@ module _ (types : List TypeDefinition) where
         record { behind = omega (arith, from, some); within = omega (arith, to, fits) }
 
     -- In an object of which no operation is awaited.
-    beside_fits : (j : List (Frame Value)) (place : Place) (v : Value) → StandsApart v j → Operated types j p.record_type (refer (whole v) place)
+    beside_fits : (j : List (Frame Value)) (place : Place) (v : Value) → StandsApart v j → Operated types within j p.record_type (refer (whole v) place)
     beside_fits j place Null none = tt
-    beside_fits j place (Names o) none = inr none
+    beside_fits j place (Names o) none = (inr none, λ ends others. none)
     beside_fits j place (Scalar held_value) none = tt
-    beside_fits j place (Inside o base) none = inr none
+    beside_fits j place (Inside o base) none = (inr none, λ ends others. none)
 
     held_apart : (j : List (Frame Value)) (places : List Value) (x : ℕ) → ((v : Value) → slice_get places x ≡ Some v → StandsApart v j) → StandsApart (slice_index_or places x Null) j
     held_apart j [] x none = tt
@@ -98,72 +99,74 @@ module _ (types : List TypeDefinition) where
     module _ (heap : List Object) (procedure : Option ℕ) (places : List Value) where
       -- Where the body begins a part, or ends one, by where the target lies.
       begins_fits :
-          (v : Value) (by : Birth) (done : List Part) (of part : ℕ) (tasks : List Task) (j : List (Frame Value)) → IsInner types of p ⊎ IsBeside p
+          (v : Value) (by : Birth) (done : List Part) (of part : ℕ) (tasks : List Task) (j : List (Frame Value)) → ((within p.record_type ≡ true) × IsInner types of p) ⊎ IsBeside p
           → RefersToOperated types heap (frame.Awaits v by done of part tasks ∷ j) procedure places
           → (IsBeside p → (u : Value) → slice_get places p.object.root ≡ Some u → StandsApart u (frame.Awaits v by done of part tasks ∷ j)) → (cs : List ℕ)
           → p.object.selectors ≡ cs → TargetFits (frame.Awaits v by done of part tasks ∷ j) cs (slice_index_or places p.object.root Null)
-      begins_fits v by done of part tasks j (inl inner) refers apart [] is =
+      begins_fits v by done of part tasks j (inl (may, inner)) refers apart [] is =
           let held_first = ap (λ (x : ℕ). slice_index_or places x Null) inner.in_formal ∙ first_held places (Inside refers.1.0 (record { component = refers.1.1; part = part })) refers.1.3 in
-          subst (TargetFits (frame.Awaits v by done of part tasks ∷ j) []) (sym held_first) (inl (refers.1.2, inner_lies of part inner.behind inner.within))
+          subst (TargetFits (frame.Awaits v by done of part tasks ∷ j) []) (sym held_first)
+          (inl (refers.1.2, inner_lies of part inner.behind inner.within), λ waits none. absurd (cc (may, none)))
       begins_fits v by done of part tasks j (inr other) refers apart [] is =
           beside_fits (frame.Awaits v by done of part tasks ∷ j) (place_in named (slice_index_or places p.object.root Null) [] p) (slice_index_or places p.object.root Null)
           (held_apart (frame.Awaits v by done of part tasks ∷ j) places p.object.root (apart other))
-      begins_fits v by done of part tasks j (inl inner) refers apart (c ∷ cs) is = let none = sym inner.at_hand ∙ is in absurd (cc none)
+      begins_fits v by done of part tasks j (inl (may, inner)) refers apart (c ∷ cs) is = let none = sym inner.at_hand ∙ is in absurd (cc none)
       begins_fits v by done of part tasks j (inr other) refers apart (c ∷ cs) is = let none = sym other.at_hand ∙ is in absurd (cc none)
 
       ends_fits :
-          (j : List (Frame Value)) → IsAtHand p ⊎ IsBeside p → RefersToOperated types heap (frame.Confines ∷ j) procedure places
+          (j : List (Frame Value)) → ((within p.record_type ≡ true) × IsAtHand p) ⊎ IsBeside p → RefersToOperated types heap (frame.Confines ∷ j) procedure places
           → ((o : Id) (base : Place) (of : ℕ) → IsAtHand p → slice_get places 0 ≡ Some (Inside o base)
           → procedure_number (operations_of types of).finalize ≡ procedure → IsWithin types of p)
           → (IsBeside p → (u : Value) → slice_get places p.object.root ≡ Some u → StandsApart u (frame.Confines ∷ j)) → (cs : List ℕ) → p.object.selectors ≡ cs
           → TargetFits (frame.Confines ∷ j) cs (slice_index_or places p.object.root Null)
-      ends_fits j (inl hand) refers ends apart [] is =
+      ends_fits j (inl (may, hand)) refers ends apart [] is =
           let of = refers.0 in
           let part = refers.1 in
           let formal = refers.3 in
           let base : Place = record { component = formal.1; part = part } in
           let held_first = ap (λ (x : ℕ). slice_index_or places x Null) hand.in_formal ∙ first_held places (Inside formal.0 base) formal.3 in
           let inside = ends formal.0 base of hand formal.3 refers.2 in
-          subst (TargetFits (frame.Confines ∷ j) []) (sym held_first) (inl (formal.2, λ n has. refers.4 n (inner_lies of part hand.behind inside n has)))
+          subst (TargetFits (frame.Confines ∷ j) []) (sym held_first)
+          (inl (formal.2, λ n has. refers.4 n (inner_lies of part hand.behind inside n has)), λ waits none. absurd (cc (may, none)))
       ends_fits j (inr other) refers ends apart [] is =
           beside_fits (frame.Confines ∷ j) (place_in named (slice_index_or places p.object.root Null) [] p) (slice_index_or places p.object.root Null)
           (held_apart (frame.Confines ∷ j) places p.object.root (apart other))
-      ends_fits j (inl hand) refers ends apart (c ∷ cs) is = let none = sym hand.at_hand ∙ is in absurd (cc none)
+      ends_fits j (inl (may, hand)) refers ends apart (c ∷ cs) is = let none = sym hand.at_hand ∙ is in absurd (cc none)
       ends_fits j (inr other) refers ends apart (c ∷ cs) is = let none = sym other.at_hand ∙ is in absurd (cc none)
 
       target_fits :
-          (j : List (Frame Value)) → Assignable types j p → RefersToOperated types heap j procedure places
+          (j : List (Frame Value)) → Assignable types within j p → RefersToOperated types heap j procedure places
           → ((o : Id) (base : Place) (of : ℕ) → ends_operation j ≡ true → IsAtHand p → slice_get places 0 ≡ Some (Inside o base)
           → procedure_number (operations_of types of).finalize ≡ procedure → IsWithin types of p)
           → ((u : Value) → ends_operation j ≡ true → IsBeside p → slice_get places p.object.root ≡ Some u → StandsApart u j) → (cs : List ℕ)
           → p.object.selectors ≡ cs → TargetFits j cs (slice_index_or places p.object.root Null)
-      target_fits [] own refers ends apart cs is = any_fits [] (λ w left. tt) cs (slice_index_or places p.object.root Null)
+      target_fits [] own refers ends apart cs is = any_fits [] refl (λ w left. tt) cs (slice_index_or places p.object.root Null)
       target_fits (frame.Awaits v by done of part tasks ∷ j) own refers ends apart cs is =
           begins_fits v by done of part tasks j (own parts) refers (λ other u held_there. apart u refl other held_there) cs is
       target_fits (frame.Confines ∷ j) own refers ends apart cs is =
           ends_fits j (own parts) refers (λ o base of hand. ends o base of refl hand) (λ other u held_there. apart u refl other held_there) cs is
-      target_fits (f ∷ j) own refers ends apart cs is = any_fits (f ∷ j) (λ w left. tt) cs (slice_index_or places p.object.root Null)
+      target_fits (f ∷ j) own refers ends apart cs is = any_fits (f ∷ j) refl (λ w left. tt) cs (slice_index_or places p.object.root Null)
 
     target_leads :
-        (q : RecordPathForm) (fs : StmtsForm) (k : List (Frame Value)) (pending : List Value) → Keeps types (frame.Does fs ∷ k) → (cs : List ℕ) (v : Value)
+        (q : RecordPathForm) (fs : StmtsForm) (k : List (Frame Value)) (pending : List Value) → Keeps types within (frame.Does fs ∷ k) → (cs : List ℕ) (v : Value)
         → TargetFits (behind_body k) cs v
-        → Leads types (selected named v cs) (whole v) pending (place_in named v cs p) (frame.Refers q ∷ frame.Assigns p.record_type ∷ frame.Does fs ∷ k)
+        → Leads types within (selected named v cs) (whole v) pending (place_in named v cs p) (frame.Refers q ∷ frame.Assigns p.record_type ∷ frame.Does fs ∷ k)
     target_leads q fs k pending h [] v fits = to_target q p.record_type fs k fits h
     target_leads q fs k pending h (c ∷ cs) v fits =
         λ w. to_target q p.record_type fs k (fits (refer w (place_in named v (c ∷ cs) p))) h
 
   -- The source may lie anywhere.
   source_leads :
-      (t : ℕ) (fs : StmtsForm) (k : List (Frame Value)) (pending : List Value) (place : Place) → Operated types (behind_body k) t (first_or Null pending)
-      → Keeps types (frame.Does fs ∷ k) → (cs : List ℕ) (v : Value) → Leads types cs v pending place (frame.Assigns t ∷ frame.Does fs ∷ k)
+      (t : ℕ) (fs : StmtsForm) (k : List (Frame Value)) (pending : List Value) (place : Place) → Operated types within (behind_body k) t (first_or Null pending)
+      → Keeps types within (frame.Does fs ∷ k) → (cs : List ℕ) (v : Value) → Leads types within cs v pending place (frame.Assigns t ∷ frame.Does fs ∷ k)
   source_leads t fs k pending place own h [] v = to_source t fs k own h
   source_leads t fs k pending place own h (c ∷ cs) v = λ w. to_source t fs k own h
 
   -- A statement begins to find them.
   copy_stands :
       (target : RecordPathForm) (items : List ItemForm) (fs : StmtsForm) (k : List (Frame Value)) (s : State) → s.mode ≡ Running
-      → has_parts types target.record_type ≡ true → Assignable types (behind_body k) target → Keeps types (frame.Does fs ∷ k)
-      → AllStand types (copy_next named target items (at (frame.Does fs ∷ k) s))
+      → has_parts types target.record_type ≡ true → Assignable types within (behind_body k) target → Keeps types within (frame.Does fs ∷ k)
+      → AllStand types within (copy_next named target items (at (frame.Does fs ∷ k) s))
   copy_stands target [] fs k s on parts own h = tt
   copy_stands target (null_item ∷ items) fs k s on parts own h = tt
   copy_stands target (item_of_path path ∷ items) fs k s on parts own h = tt
@@ -171,92 +174,92 @@ module _ (types : List TypeDefinition) where
   copy_stands target (item_of_record source ∷ []) fs k s on parts own h = seeks on (target_next target source fs k parts own h)
   copy_stands target (item_of_record source ∷ i ∷ items) fs k s on parts own h = tt
 
-module _ (types : List TypeDefinition) (bodies : List BodyForm) (operations : OperationsAssign types bodies) where
-  all_stand : (n : Next) → AllKeep types n → AllStand types n
-  all_stand n all = each_follows (λ (s : State). Keeps types s.control) (Stands types) (λ s h. keeps h) n all
+module _ (types : List TypeDefinition) (within : ℕ → Bool) (bodies : List BodyForm) (operations : OperationsAssign types within bodies) where
+  all_stand : (n : Next) → AllKeep types within n → AllStand types within n
+  all_stand n all = each_follows (λ (s : State). Keeps types within s.control) (Stands types within) (λ s h. keeps h) n all
 
   -- Statements, by whether the first assigns to a record with controlled parts.
   parts_stand :
       (parts : Bool) (target : RecordPathForm) (items : List ItemForm) (fs : StmtsForm) (k : List (Frame Value)) (s : State) → s.mode ≡ Running
-      → has_parts types target.record_type ≡ parts → StmtsAssign (Assignable types (behind_body k)) (a_stmt (assigns_record target items) fs) → Keeps types k
-      → AllStand types (stmts_next named types bodies (a_stmt (assigns_record target items) fs) (at k s))
+      → has_parts types target.record_type ≡ parts → StmtsAssign (Assignable types within (behind_body k)) (a_stmt (assigns_record target items) fs) → Keeps types within k
+      → AllStand types within (stmts_next named types bodies (a_stmt (assigns_record target items) fs) (at k s))
   parts_stand false target items fs k s on is own h =
       all_stand (stmts_next named types bodies (a_stmt (assigns_record target items) fs) (at k s))
-      (stmts_keep types bodies operations (a_stmt (assigns_record target items) fs) (at k s) is own h)
+      (stmts_keep types within bodies operations (a_stmt (assigns_record target items) fs) (at k s) is own h)
   parts_stand true target items fs k s on is own h =
-      subst (λ (parts : Bool). AllStand types (record_assign_next named parts target items (at (frame.Does fs ∷ k) s))) (sym is)
-      (copy_stands types target items fs k s on is own.0 (own.1, h))
+      subst (λ (parts : Bool). AllStand types within (record_assign_next named parts target items (at (frame.Does fs ∷ k) s))) (sym is)
+      (copy_stands types within target items fs k s on is own.0 (own.1, h))
 
   plain_stand :
       (f : StmtForm) (fs : StmtsForm) (k : List (Frame Value)) (s : State) → first_assigns_parts types (a_stmt f fs) ≡ false
-      → StmtsAssign (Assignable types (behind_body k)) (a_stmt f fs) → Keeps types k → AllStand types (stmts_next named types bodies (a_stmt f fs) (at k s))
+      → StmtsAssign (Assignable types within (behind_body k)) (a_stmt f fs) → Keeps types within k → AllStand types within (stmts_next named types bodies (a_stmt f fs) (at k s))
   plain_stand f fs k s none own h =
-      all_stand (stmts_next named types bodies (a_stmt f fs) (at k s)) (stmts_keep types bodies operations (a_stmt f fs) (at k s) none own h)
+      all_stand (stmts_next named types bodies (a_stmt f fs) (at k s)) (stmts_keep types within bodies operations (a_stmt f fs) (at k s) none own h)
 
-  stmts_stand : (fs : StmtsForm) (k : List (Frame Value)) (s : State) → s.mode ≡ Running → StmtsAssign (Assignable types (behind_body k)) fs → Keeps types k
-      → AllStand types (stmts_next named types bodies fs (at k s))
+  stmts_stand : (fs : StmtsForm) (k : List (Frame Value)) (s : State) → s.mode ≡ Running → StmtsAssign (Assignable types within (behind_body k)) fs → Keeps types within k
+      → AllStand types within (stmts_next named types bodies fs (at k s))
   stmts_stand no_stmts k s on own h = keeps h
   stmts_stand (a_stmt (assigns_record target items) fs) k s on own h = parts_stand (has_parts types target.record_type) target items fs k s on refl own h
   stmts_stand (a_stmt f fs) k s on own h = plain_stand f fs k s refl own h
 
-  running_stands : (k : List (Frame Value)) (s : State) → s.mode ≡ Running → Keeps types k → AllStand types (running_next named types bodies k s)
+  running_stands : (k : List (Frame Value)) (s : State) → s.mode ≡ Running → Keeps types within k → AllStand types within (running_next named types bodies k s)
   running_stands [] s on h = tt
   running_stands (frame.Does fs ∷ k) s on h = stmts_stand fs k s on h.0 h.1
-  running_stands (f ∷ k) s on h = all_stand (running_next named types bodies (f ∷ k) s) (running_keeps types bodies operations (f ∷ k) s refl h)
+  running_stands (f ∷ k) s on h = all_stand (running_next named types bodies (f ∷ k) s) (running_keeps types within bodies operations (f ∷ k) s refl h)
 
   -- Records are found.
   seeking_stands :
       (k : List (Frame Value)) (s : State) → s.mode ≡ Running → OperationsRefer types s.heap k s.activations → EndsInside types k s.activations
-      → DeclaresBeside types k s.activations → Sought types (operands s) k → AllStand types (running_next named types bodies k s)
+      → DeclaresBeside types k s.activations → Sought types within (operands s) k → AllStand types within (running_next named types bodies k s)
   seeking_stands _ s on refers ends apart (target_next p q fs k parts own h) =
       let v = held named s p.object.root in
       let cs = p.object.selectors in
-      path_stands types (place_in named v cs p) p.record_type (frame.Refers q ∷ frame.Assigns p.record_type ∷ frame.Does fs ∷ k) (selected named v cs) (whole v) s on
-      (target_leads types p parts q fs k (operands s) h cs v
-      (target_fits types p parts s.heap (procedure_of s.activations) (places_of s.activations) (behind_body k) own (operated_here types s.heap k s.activations refers)
+      path_stands types within (place_in named v cs p) p.record_type (frame.Refers q ∷ frame.Assigns p.record_type ∷ frame.Does fs ∷ k) (selected named v cs) (whole v) s on
+      (target_leads types within p parts q fs k (operands s) h cs v
+      (target_fits types within p parts s.heap (procedure_of s.activations) (places_of s.activations) (behind_body k) own (operated_here types s.heap k s.activations refers)
       (λ o base of. ends p (frame.Refers q ∷ frame.Assigns p.record_type ∷ frame.Does fs ∷ k) o base of refl)
       (λ u. apart p (frame.Refers q ∷ frame.Assigns p.record_type ∷ frame.Does fs ∷ k) u refl) cs refl))
   seeking_stands _ s on refers ends apart (source_next q t fs k own h) =
       let v = held named s q.object.root in
       let cs = q.object.selectors in
-      path_stands types (place_in named v cs q) q.record_type (frame.Assigns t ∷ frame.Does fs ∷ k) (selected named v cs) (whole v) s on
-      (source_leads types t fs k (operands s) (place_in named v cs q) own h (selected named v cs) (whole v))
+      path_stands types within (place_in named v cs q) q.record_type (frame.Assigns t ∷ frame.Does fs ∷ k) (selected named v cs) (whole v) s on
+      (source_leads types within t fs k (operands s) (place_in named v cs q) own h (selected named v cs) (whole v))
   seeking_stands _ s on refers ends apart (follows cs place u behind h) =
-      path_stands types place u behind cs (newest named s) (popped s) on
-      (any_leads cs (λ w. subst (λ (ops : List Value). Reaches types w ops place behind) (sym (operands_popped s)) (h w)))
+      path_stands types within place u behind cs (newest named s) (popped s) on
+      (any_leads cs (λ w. subst (λ (ops : List Value). Reaches types within w ops place behind) (sym (operands_popped s)) (h w)))
     where
-      any_leads : (cs : List ℕ) → ((w : Value) → Reaches types w (operands (popped s)) place behind) → Leads types cs (newest named s) (operands (popped s)) place behind
+      any_leads : (cs : List ℕ) → ((w : Value) → Reaches types within w (operands (popped s)) place behind) → Leads types within cs (newest named s) (operands (popped s)) place behind
       any_leads [] any = any (newest named s)
       any_leads (c ∷ cs) any = any
   seeking_stands _ s on refers ends apart (reaches place u behind h) =
-      refers_stands types (newest named s) place (width_of types u) (look s.heap (newest named s)) behind (popped s) on
-      (subst (λ (ops : List Value). Reaches types (newest named s) ops place behind) (sym (operands_popped s)) h)
+      refers_stands types within (newest named s) place (width_of types u) (look s.heap (newest named s)) behind (popped s) on
+      (subst (λ (ops : List Value). Reaches types within (newest named s) ops place behind) (sym (operands_popped s)) h)
   seeking_stands _ s on refers ends apart (both_known t fs k own h) =
       let target = newest named (popped s) in
       let source = newest named s in
-      assigned_stands types t fs k target source (same target source) (popped (popped s)) refl
-      (subst (λ (ops : List Value). Operated types (behind_body k) t (first_or Null ops)) (sym (operands_popped s)) own) h
+      assigned_stands types within t fs k target source (same target source) (popped (popped s)) refl
+      (subst (λ (ops : List Value). Operated types within (behind_body k) t (first_or Null ops)) (sym (operands_popped s)) own) h
 
   -- An exception comes out of that.
-  failing_stands : (e : Exception) (k : List (Frame Value)) (s : State) → s.mode ≡ Raising e → Passes types k → AllStand types (jump_next named (Raising e) k s)
+  failing_stands : (e : Exception) (k : List (Frame Value)) (s : State) → s.mode ≡ Raising e → Passes types within k → AllStand types within (jump_next named (Raising e) k s)
   failing_stands e _ s raising (by_assigns t k h) = keeps h
   failing_stands e _ s raising (by_refers p k h) = fails e raising h
   failing_stands e _ s raising (by_reference place u k h) = fails e raising h
 
   -- Whatever comes next.
-  kept_stands : (m : Mode) (s : State) → s.mode ≡ m → Keeps types s.control → AllStand types (mode_next named types bodies m s)
+  kept_stands : (m : Mode) (s : State) → s.mode ≡ m → Keeps types within s.control → AllStand types within (mode_next named types bodies m s)
   kept_stands Running s is h = running_stands s.control s is h
-  kept_stands (Raising e) s is h = all_stand (jump_next named (Raising e) s.control s) (jump_keeps types bodies operations (Raising e) s.control s h)
-  kept_stands Exiting s is h = all_stand (jump_next named Exiting s.control s) (jump_keeps types bodies operations Exiting s.control s h)
-  kept_stands Returning s is h = all_stand (jump_next named Returning s.control s) (jump_keeps types bodies operations Returning s.control s h)
+  kept_stands (Raising e) s is h = all_stand (jump_next named (Raising e) s.control s) (jump_keeps types within bodies operations (Raising e) s.control s h)
+  kept_stands Exiting s is h = all_stand (jump_next named Exiting s.control s) (jump_keeps types within bodies operations Exiting s.control s h)
+  kept_stands Returning s is h = all_stand (jump_next named Returning s.control s) (jump_keeps types within bodies operations Returning s.control s h)
 
   pub next_stands :
       (s : State) → OperationsRefer types s.heap s.control s.activations → (s.mode ≡ Running → EndsInside types s.control s.activations)
-      → (s.mode ≡ Running → DeclaresBeside types s.control s.activations) → Stands types s
-      → AllStand types (next types bodies s)
+      → (s.mode ≡ Running → DeclaresBeside types s.control s.activations) → Stands types within s
+      → AllStand types within (next types bodies s)
   unfolding next
   next_stands s refers ends apart (keeps h) = kept_stands s.mode s refl h
   next_stands s refers ends apart (seeks on h) =
-      subst (λ (m : Mode). AllStand types (mode_next named types bodies m s)) (sym on) (seeking_stands s.control s on refers (ends on) (apart on) h)
+      subst (λ (m : Mode). AllStand types within (mode_next named types bodies m s)) (sym on) (seeking_stands s.control s on refers (ends on) (apart on) h)
   next_stands s refers ends apart (fails e raising h) =
-      subst (λ (m : Mode). AllStand types (mode_next named types bodies m s)) (sym raising) (failing_stands e s.control s raising h)
+      subst (λ (m : Mode). AllStand types within (mode_next named types bodies m s)) (sym raising) (failing_stands e s.control s raising h)

@@ -1,7 +1,7 @@
 -- What is left to do, where bodies of operations assign to records with controlled parts inside of their formal parameters alone, or in record objects that they
 -- declare (5.2, 7.6): the invariant of this crate over the frames.
 
-use Rattle.std.proofs.Common.{◌≡◌, ℕ, ◌+◌, ◌<◌, ◌≤◌, true, false, List, [], ◌∷◌, Some, ◌⊎◌}
+use Rattle.std.proofs.Common.{◌≡◌, ℕ, ◌+◌, ◌<◌, ◌≤◌, Bool, true, false, List, [], ◌∷◌, Some, ◌⊎◌}
 use Rattle.std.specs.List.{slice_get, Contains}
 use Rattle.ada_program.specs.declared.program.TypeDefinition.{TypeDefinition}
 use Rattle.ada_program.specs.Controlled.{number_of, operations_of, procedure_number, shapes_of}
@@ -129,15 +129,17 @@ pub record IsBeside (target : RecordPathForm) : Type 0 where
   pub at_hand : target.object.selectors ≡ []
   pub beside : 0 < target.object.root
 
-module _ (types : List TypeDefinition) where
+-- Of these types records are assigned to inside of formal parameters.
+module _ (types : List TypeDefinition) (within : ℕ → Bool) where
   -- What a body assigns to that is called to begin a part of a type of this number (7.6): what has controlled parts is inside, or lies
   -- in another variable.
   abbrev pub InBeginning : (of : ℕ) → RecordPathForm → Type 0
-  InBeginning of target = has_parts types target.record_type ≡ true → IsInner types of target ⊎ IsBeside target
+  InBeginning of target =
+      has_parts types target.record_type ≡ true → ((within target.record_type ≡ true) × IsInner types of target) ⊎ IsBeside target
 
   -- What a body of a Finalize assigns to (7.6.1).
   abbrev pub InEnding : RecordPathForm → Type 0
-  InEnding target = has_parts types target.record_type ≡ true → IsAtHand target ⊎ IsBeside target
+  InEnding target = has_parts types target.record_type ≡ true → ((within target.record_type ≡ true) × IsAtHand target) ⊎ IsBeside target
 
   -- What a body assigns to, by what is left to do behind it.
   abbrev pub Assignable : (behind : List (Frame Value)) → RecordPathForm → Type 0
@@ -145,6 +147,7 @@ module _ (types : List TypeDefinition) where
   Assignable (frame.Confines ∷ k) target = InEnding target
   Assignable k target = Unit {0}
 
+module _ (types : List TypeDefinition) where
   -- All that is left of a treatment of an object lies in the part that the body is called for, in front of what is left to do; or it is left to be finalized there.
   abbrev pub LiesInOperated : (behind : List (Frame Value)) → Value → List Task → Type 0
   LiesInOperated (frame.Awaits v by done of part tasks ∷ k) w left =
@@ -167,18 +170,19 @@ module _ (types : List TypeDefinition) where
       × (k ≡ frame.StoresRecord o to width ∷ treating o (frame.begins (Adjustment number) []) left (frame.Does fs ∷ later))
       × LiesSafely (behind_body later) o left
 
+module _ (types : List TypeDefinition) (within : ℕ → Bool) where
   -- A frame, and what is behind it: it assigns so. No assignment has found its records.
   abbrev pub FrameAssigns : Frame Value → (behind : List (Frame Value)) → Type 0
-  FrameAssigns (frame.Elaborates ds fs hs) k = StmtsAssign (Assignable (behind_body k)) fs × HandlersAssign (Assignable (behind_body k)) hs
-  FrameAssigns (frame.Does fs) k = StmtsAssign (Assignable (behind_body k)) fs
-  FrameAssigns (frame.Decides fs branches) k = StmtsAssign (Assignable (behind_body k)) fs × BranchesAssign (Assignable (behind_body k)) branches
-  FrameAssigns (frame.Repeats condition fs) k = StmtsAssign (Assignable (behind_body k)) fs
-  FrameAssigns (frame.Turns condition fs) k = StmtsAssign (Assignable (behind_body k)) fs
-  FrameAssigns (frame.Ranges x fs) k = StmtsAssign (Assignable (behind_body k)) fs
-  FrameAssigns (frame.Counts x value last fs) k = StmtsAssign (Assignable (behind_body k)) fs
-  FrameAssigns (frame.Handles hs) k = HandlersAssign (Assignable (behind_body k)) hs
+  FrameAssigns (frame.Elaborates ds fs hs) k = StmtsAssign (Assignable types within (behind_body k)) fs × HandlersAssign (Assignable types within (behind_body k)) hs
+  FrameAssigns (frame.Does fs) k = StmtsAssign (Assignable types within (behind_body k)) fs
+  FrameAssigns (frame.Decides fs branches) k = StmtsAssign (Assignable types within (behind_body k)) fs × BranchesAssign (Assignable types within (behind_body k)) branches
+  FrameAssigns (frame.Repeats condition fs) k = StmtsAssign (Assignable types within (behind_body k)) fs
+  FrameAssigns (frame.Turns condition fs) k = StmtsAssign (Assignable types within (behind_body k)) fs
+  FrameAssigns (frame.Ranges x fs) k = StmtsAssign (Assignable types within (behind_body k)) fs
+  FrameAssigns (frame.Counts x value last fs) k = StmtsAssign (Assignable types within (behind_body k)) fs
+  FrameAssigns (frame.Handles hs) k = HandlersAssign (Assignable types within (behind_body k)) hs
   FrameAssigns (frame.Calls procedure b actuals) k = (ends_operation k ≡ false)
-  FrameAssigns (frame.Copies first t) k = CopiesFor k
+  FrameAssigns (frame.Copies first t) k = CopiesFor types k
   FrameAssigns (frame.Assigns t) k = ⊥
   FrameAssigns f k = Unit {0}
 
@@ -191,6 +195,18 @@ module _ (types : List TypeDefinition) where
   abbrev pub AllKeep : Next → Type 0
   AllKeep = Each (λ (s : State). Keeps s.control)
 
+  -- A body that no operation waits for assigns to anything.
+  pub assigns_any : (k : List (Frame Value)) → ends_operation k ≡ false → (target : RecordPathForm) → Assignable types within k target
+  assigns_any [] none target = tt
+  assigns_any (frame.Awaits v by done of part tasks ∷ k) none target = absurd (cc)
+  assigns_any (frame.Confines ∷ k) none target = absurd (cc)
+  assigns_any (f ∷ k) none target = tt
+
+-- The object stands apart of the operation that waits there, if records of this type are assigned to inside of no formal parameter.
+abbrev pub ApartBeside : (within : ℕ → Bool) → (behind : List (Frame Value)) → (record_type : ℕ) → Value → Type 0
+ApartBeside within k t w = ends_operation k ≡ true → within t ≡ false → NoOperationRunsOn w k
+
+module _ (types : List TypeDefinition) where
   -- The controlled parts of a record that lies in one of a type of this number are among those of that (7.6).
   abbrev pub IsWithin : (of : ℕ) → RecordPathForm → Type 0
   IsWithin of target =
@@ -210,18 +226,11 @@ module _ (types : List TypeDefinition) where
       (target : RecordPathForm) (outer : List (Frame Value)) (v : Value) → k ≡ frame.Refers target ∷ outer → ends_operation (behind_body outer) ≡ true
       → IsBeside target → slice_get (places_of acts) target.object.root ≡ Some v → StandsApart v (behind_body outer)
 
-  -- A body that no operation waits for assigns to anything.
-  pub assigns_any : (k : List (Frame Value)) → ends_operation k ≡ false → (target : RecordPathForm) → Assignable k target
-  assigns_any [] none target = tt
-  assigns_any (frame.Awaits v by done of part tasks ∷ k) none target = absurd (cc)
-  assigns_any (frame.Confines ∷ k) none target = absurd (cc)
-  assigns_any (f ∷ k) none target = tt
-
 -- What overrides operations assigns so (7.6).
-pub record OperationsAssign (types : List TypeDefinition) (bodies : List BodyForm) : Type 0 where
+pub record OperationsAssign (types : List TypeDefinition) (within : ℕ → Bool) (bodies : List BodyForm) : Type 0 where
   pub beginning :
       (by : Birth) (of procedure : ℕ) → begun_by by (operations_of types of) ≡ Some procedure → (b : BodyForm) → slice_get bodies procedure ≡ Some b
-      → BodyAssigns (InBeginning types of) b
+      → BodyAssigns (InBeginning types within of) b
   pub ending :
       (of procedure : ℕ) → procedure_number (operations_of types of).finalize ≡ Some procedure → (b : BodyForm) → slice_get bodies procedure ≡ Some b
-      → BodyAssigns (InEnding types) b
+      → BodyAssigns (InEnding types within) b

@@ -17,7 +17,7 @@ use Rattle.ada_order.proofs.Choices.{run_by}
 use Rattle.ada_order.proofs.Example.{steps, vec}
 use Rattle.ada_finalized.specs.Example.{object_x, object_y, object_stmts}
 use Rattle.ada_assigned.specs.Law.{operations_assign_inside}
-use Rattle.ada_assigned.specs.Example.{copying_initialize, AssignsToDeclared, InitializeAssignsBeside}
+use Rattle.ada_assigned.specs.Example.{copying_initialize, AssignsToDeclared, FindsDeclared, InitializeAssignsBeside}
 use Rattle.ada_assigned.proofs.Example as other
 use Rattle.ada_assigned.proofs.Example.{inner_path}
 
@@ -60,7 +60,7 @@ well_formed = record {
   bodies_fit = refl;
 }
 
-assigns_so : operations_assign_inside (program_form program) ≡ true
+assigns_so : operations_assign_inside (program_form program) (λ t. false) ≡ true
 unfolding expression_form stmt_form
 assigns_so = refl
 
@@ -82,5 +82,12 @@ assigns_to_declared =
     run_by program (copying_initialize ∷ []) object_stmts bodies form choices (λ events last. AssignsToDeclared last) refl
     (_, _, _, _, _, refl, λ same. absurd (apart same))
 
+-- One step before that they have been found.
+finds_declared : InSomeRun program (λ events last. FindsDeclared last)
+unfolding next expression_form stmt_form
+finds_declared =
+    run_by program (copying_initialize ∷ []) object_stmts bodies form (steps 3 ++ takes 0 ∷ steps 10) (λ events last. FindsDeclared last) refl
+    (refl, _, _, refl, refl, _, _, refl, refl)
+
 pub initialize_assigns_beside : InitializeAssignsBeside
-initialize_assigns_beside = (program, refl, refl, bodies, form, well_formed, assigns_so, assigns_to_declared)
+initialize_assigns_beside = (program, refl, refl, bodies, form, well_formed, assigns_so, assigns_to_declared, finds_declared)

@@ -1,6 +1,6 @@
 -- So it is in each state of a run; and where an operation of an object runs alone, what its body assigns to has its values (7.6.1).
 
-use Rattle.std.proofs.Common.{◌≡◌, ℕ, ℤ, ◌≤◌, true, List, [], ◌∷◌, refl, sym, ap, ◌∙◌, subst, arith, inl, inr}
+use Rattle.std.proofs.Common.{◌≡◌, ℕ, ℤ, ◌≤◌, Bool, true, false, List, [], ◌∷◌, refl, sym, ap, ◌∙◌, subst, arith, inl, inr}
 use Rattle.std.specs.List.{Contains}
 use Rattle.ada_program.specs.declared.program.Program.{Program}
 use Rattle.ada_program.specs.declared.program.TypeDefinition.{TypeDefinition}
@@ -14,27 +14,32 @@ use Rattle.ada_parts.specs.Task.{Task}
 use Rattle.ada_parts.specs.Law.{parts_left}
 use Rattle.ada_meaning.specs.declared.event.Birth.TheVariants.{Adjustment}
 use Rattle.ada_meaning.specs.declared.event.Cause.TheVariants.{Assigning}
+use Rattle.ada_meaning.specs.declared.state.Id.{Id}
+use Rattle.ada_meaning.specs.declared.state.Mode.TheVariants.{Running, Raising}
+use Rattle.ada_meaning.specs.declared.state.Place.{Place}
 use Rattle.ada_meaning.specs.declared.state.Value.{Value}
+use Rattle.ada_meaning.specs.declared.state.Value.TheVariants.{Null, Names, Part as Inside}
 use Rattle.ada_meaning.specs.Frame.{Frame, begins, ends}
 use Rattle.ada_meaning.specs.Frame as frame
-use Rattle.ada_meaning.specs.Step.{halts, moves, tells, asks, picks, older, treating}
+use Rattle.ada_meaning.specs.Step.{halts, moves, tells, asks, picks, first_or, older, operands, treating}
 use Rattle.ada_meaning.specs.Named.{State, Next, next}
 use Rattle.ada_meaning.specs.Run.{Event, Choice, settled, grants, takes, Leads, Step, Run, here, there, first_state}
 use Rattle.ada_formals.specs.Formals as formal
 use Rattle.ada_formals.proofs.Runs.{operations_refer_to_their_parts}
-use Rattle.ada_finalized.specs.Law.{finalized_before, left_to_finalize, IsInside, TreatsInside}
+use Rattle.ada_finalized.specs.Law.{finalized_before, left_to_finalize, IsInside, NoOperationRunsOn, TreatsInside}
 use Rattle.ada_finalized.proofs.Counts.{count, count_has}
-use Rattle.ada_finalized.proofs.Doings.{name, Calm}
+use Rattle.ada_finalized.proofs.Doings.{name, Calm, rest}
 use Rattle.ada_finalized.proofs.Inside.{counted, none_inside}
 use Rattle.ada_finalized.proofs.Twice.{inner_values_exist}
 use Rattle.ada_finalized.proofs.Ranks.{Heap}
 use Rattle.ada_finalized.proofs.Runs.{last_holds}
 use Rattle.ada_finalized.proofs.Stacks.{Acts, Control, code, guard, finalization, Stack, nothing, calm, comes_back, operates, awaits, confines, to_end, to_copy, storing_then}
-use Rattle.ada_finalized.proofs.Invariant.{Finding, Passing, seeks as seeks_record, follows, reaches, assigns, passes_assigns, passes_refers, passes_in, Stands as StandsOver, runs, finding, passing, ends_operation, beginning, ending, leaving, storing}
+use Rattle.ada_finalized.proofs.Invariant.{Finding, Passing, seeks as seeks_record, follows, reaches, assigns, passes_assigns, passes_refers, passes_in, AssignsThen, Stands as StandsOver, runs, finding, passing, ends_operation as ends_guard, beginning, ending, leaving, storing}
 use Rattle.ada_typed.proofs.Kept.{Each}
-use Rattle.ada_assigned.specs.Law.{RunsAlone, operations_assign_inside, AssignmentsInsideStand}
+use Rattle.ada_formals.proofs.Standing.{ends_operation}
+use Rattle.ada_assigned.specs.Law.{RunsAlone, operations_assign_inside, is_of_operation, waits_first, AssignmentsInsideStand, AssignmentsBesideRunAlone}
 use Rattle.ada_assigned.proofs.Keeping.{behind_body, Assignable, LiesSafely, CopiesFor, Keeps, any_body}
-use Rattle.ada_assigned.proofs.Seeking.{Sought, target_next, source_next, follows as follows_path, reaches as reaches_record, both_known, Passes, by_assigns, by_refers, by_reference, Stands, keeps, seeks, fails}
+use Rattle.ada_assigned.proofs.Seeking.{Operated, Sought, target_next, source_next, follows as follows_path, reaches as reaches_record, both_known, Passes, by_assigns, by_refers, by_reference, Stands, keeps, seeks, fails}
 use Rattle.ada_assigned.proofs.Going.{next_stands}
 use Rattle.ada_assigned.proofs.Texts.{operations_assign}
 use Rattle.ada_assigned.proofs.Finalizing.{ends_inside}
@@ -64,28 +69,28 @@ and_then program s mid after (d ∷ events) choice e (there other next_one first
     let more = and_then program next_one mid after events choice e rest step in
     (d ∷ more.0, there other next_one first more.1)
 
-module _ (program : Program) (well : IsWellFormed (program_form program)) (inside : operations_assign_inside (program_form program) ≡ true) (input : List ℤ) where
+module _ (program : Program) (well : IsWellFormed (program_form program)) (within : ℕ → Bool) (inside : operations_assign_inside (program_form program) within ≡ true) (input : List ℤ) where
   step_stands :
       (events : List Event) (s after : State) (choice : Choice) (e : Event) → Run program (first_state program input) events s
-      → Stands program.types.items s → Step program s choice e after → Stands program.types.items after
+      → Stands program.types.items within s → Step program s choice e after → Stands program.types.items within after
   step_stands events s after choice e run h step =
-      led (Stands program.types.items) (next program.types.items (body_forms program) s) choice e after
-      (next_stands program.types.items (body_forms program) (operations_assign program well inside) s
+      led (Stands program.types.items within) (next program.types.items (body_forms program) s) choice e after
+      (next_stands program.types.items within (body_forms program) (operations_assign program well within inside) s
       (operations_refer_to_their_parts program well input events s run) (ends_inside program well input events s run)
       (declares_beside program well input events s run) h) step
 
   run_stands :
-      (past events : List Event) (s last : State) → Run program (first_state program input) past s → Stands program.types.items s → Run program s events last
-      → Stands program.types.items last
+      (past events : List Event) (s last : State) → Run program (first_state program input) past s → Stands program.types.items within s → Run program s events last
+      → Stands program.types.items within last
   run_stands past _ s last run h here = h
   run_stands past (e ∷ events) s last run h (there choice mid step rest) =
       let more = and_then program (first_state program input) s mid past choice e run step in
       run_stands more.0 events mid last more.1 (step_stands past s mid choice e run h step) rest
 
-  pub last_stands : (events : List Event) (last : State) → Run program (first_state program input) events last → Stands program.types.items last
+  pub last_stands : (events : List Event) (last : State) → Run program (first_state program input) events last → Stands program.types.items within last
   last_stands events last run =
       run_stands [] events (first_state program input) last here
-      (keeps (any_body (Assignable program.types.items []) (λ target. tt) (main_body (program_form program)), tt)) run
+      (keeps (any_body (Assignable program.types.items within []) (λ target. tt) (main_body (program_form program)), tt)) run
 
 -- What is left of the treatment, and what stands behind it.
 module _ (types : List TypeDefinition) (s : State) (object : Value) (number first t : ℕ) (tasks : List Task) (k : List (Frame Value))
@@ -158,7 +163,7 @@ module _ (types : List TypeDefinition) (s : State) (object : Value) (number firs
   copying (runs h) = by_code s.activations s.control is h
   copying (finding running f after) = by_finding _ s.control is f
   copying (passing e raising p after) = by_passing s.control is p
-  copying (ends_operation h) = by_guard s.activations s.control is h
+  copying (ends_guard h) = by_guard s.activations s.control is h
   copying (beginning o by done task left j running e h) = absurd (cc (sym is ∙ e))
   copying (ending running h) = by_finalization s.activations s.control is h
   copying (leaving o x cause pool j running e own h at_o gone) = absurd (cc (sym is ∙ e))
@@ -226,24 +231,24 @@ module _ (types : List TypeDefinition) (xs : Heap) (o : Value) (left : List Task
   code_in acts _ (operates k h) alone lies = guard_in (older acts) k h alone lies
 
 -- All that is left of the treatment is.
-module _ (types : List TypeDefinition) (s : State) (object : Value) (number first t : ℕ) (tasks : List Task) (k : List (Frame Value))
+module _ (types : List TypeDefinition) (within : ℕ → Bool) (s : State) (object : Value) (number first t : ℕ) (tasks : List Task) (k : List (Frame Value))
     (is : s.control ≡ frame.Treats object (ends (Assigning number)) tasks ∷ frame.Copies first t ∷ k) (alone : RunsAlone object k) where
   abbrev there_now : List (Frame Value)
   there_now = frame.Treats object (ends (Assigning number)) tasks ∷ frame.Copies first t ∷ k
 
-  by_sought : (ops : List Value) (c : Control) → c ≡ there_now → Sought types ops c → Keeps types c
+  by_sought : (ops : List Value) (c : Control) → c ≡ there_now → Sought types within ops c → Keeps types within c
   by_sought ops _ e (target_next p q fs j parts own h) = absurd (cc e)
   by_sought ops _ e (source_next q u fs j own h) = absurd (cc e)
   by_sought ops _ e (follows_path cs place u behind h) = absurd (cc e)
   by_sought ops _ e (reaches_record place u behind h) = absurd (cc e)
   by_sought ops _ e (both_known u fs j own h) = absurd (cc e)
 
-  by_passes : (c : Control) → c ≡ there_now → Passes types c → Keeps types c
+  by_passes : (c : Control) → c ≡ there_now → Passes types within c → Keeps types within c
   by_passes _ e (by_assigns u j h) = absurd (cc e)
   by_passes _ e (by_refers p j h) = absurd (cc e)
   by_passes _ e (by_reference place u j h) = absurd (cc e)
 
-  kept : Stands types s → Keeps types s.control
+  kept : Stands types within s → Keeps types within s.control
   kept (keeps h) = h
   kept (seeks on h) = by_sought _ s.control is h
   kept (fails e raising h) = by_passes s.control is h
@@ -275,13 +280,105 @@ module _ (types : List TypeDefinition) (s : State) (object : Value) (number firs
       let le = c.less n in
       by_lists n c.o c.m c.to c.width f.1 f.2 f.3 c.acts c.later f.0 f.5 f.6 c.left f.4 c.object_is c.stored c.behind (omega (arith, some, le)) f.7 f.8
 
-  pub treats_inside : StandsOver types s.heap s → Stands types s → TreatsInside (shapes_of types) object tasks (frame.Copies first t ∷ k)
+  pub treats_inside : StandsOver types s.heap s → Stands types within s → TreatsInside (shapes_of types) object tasks (frame.Copies first t ∷ k)
   treats_inside over h n has =
-      by_copies n (count_has n (parts_left (shapes_of types) tasks) has) (copying types s object number first t tasks k is over) (subst (Keeps types) is (kept h)).1.0
+      by_copies n (count_has n (parts_left (shapes_of types) tasks) has) (copying types s object number first t tasks k is over) (subst (Keeps types within) is (kept h)).1.0
 
 pub assignments_stand : AssignmentsInsideStand
-assignments_stand program well inside input events last run object number tasks first t k is alone halted =
+assignments_stand program well within inside input events last run object number tasks first t k is alone halted =
     let types = program.types.items in
     inner_values_exist program input events last run object (ends (Assigning number)) tasks (frame.Copies first t ∷ k) is
-    (treats_inside types last object number first t tasks k is alone (last_holds program input events last run).fits.stands
-    (last_stands program well inside input events last run)) halted
+    (treats_inside types within last object number first t tasks k is alone (last_holds program input events last run).fits.stands
+    (last_stands program well within inside input events last run)) halted
+
+-- Where code comes next, and behind it no operation of an object runs, none does at all.
+module _ (types : List TypeDefinition) (xs : Heap) (v : Value) where
+  calm_alone : (f : Frame Value) (k : Control) → Calm f → NoOperationRunsOn v k → NoOperationRunsOn v (f ∷ k)
+  calm_alone (frame.Awaits w by done of part tasks) k c alone = absurd c
+  calm_alone frame.Confines k c alone = absurd c
+  calm_alone f k c alone = alone
+
+  behind_alone : (f : Frame Value) (k : Control) → Calm f → NoOperationRunsOn v (behind_body (f ∷ k)) → NoOperationRunsOn v (behind_body k)
+  behind_alone (frame.Returns actuals references) k c alone = absurd c
+  behind_alone f k c alone = alone
+
+  code_alone : (acts : Acts) (k : Control) → Stack types xs code acts k → NoOperationRunsOn v (behind_body k) → NoOperationRunsOn v k
+  code_alone acts _ nothing alone = tt
+  code_alone acts _ (calm f k c h) alone = calm_alone f k c (code_alone acts k h (behind_alone f k c alone))
+  code_alone acts _ (comes_back actuals references k h) alone = alone
+  code_alone acts _ (operates k h) alone = alone
+
+-- What waits behind the running body is an operation, where that is said.
+ends_first : (k : Control) → waits_first k ≡ true → ends_operation k ≡ true
+ends_first [] is = absurd (cc is)
+ends_first (frame.Awaits v by done of part tasks ∷ k) is = refl
+ends_first (frame.Confines ∷ k) is = refl
+ends_first (f ∷ k) is = absurd (cc is)
+
+ends_behind : (k : Control) → is_of_operation k ≡ true → ends_operation (behind_body k) ≡ true
+ends_behind [] is = absurd (cc is)
+ends_behind (frame.Returns actuals references ∷ k) is = ends_first k is
+ends_behind (f ∷ k) is = ends_behind k is
+
+-- Where the records of an assignment have been found, no operation runs of the object in which the target lies, if none of its type is assigned to inside of a
+-- formal parameter.
+module _ (types : List TypeDefinition) (within : ℕ → Bool) (s : State) (t : ℕ) (k : Control) (going : s.mode ≡ Running) (is : s.control ≡ frame.Assigns t ∷ k)
+    (own : is_of_operation k ≡ true) (none : within t ≡ false) (o : Id) (place : Place) (target : first_or Null (older (operands s)) ≡ Inside o place) where
+  abbrev assigning : Control
+  assigning = frame.Assigns t ∷ k
+
+  sought_alone : (c : Control) → c ≡ assigning → Sought types within (operands s) c → NoOperationRunsOn (Names o) (behind_body k)
+  sought_alone _ e (target_next p q fs j parts own' h) = absurd (cc e)
+  sought_alone _ e (source_next q u fs j own' h) = absurd (cc e)
+  sought_alone _ e (follows_path cs at u behind h) = absurd (cc e)
+  sought_alone _ e (reaches_record at u behind h) = absurd (cc e)
+  sought_alone _ e (both_known u fs j found h) =
+      let same : u ≡ t = cc e in
+      let behind : frame.Does fs ∷ j ≡ k = cc e in
+      let apart : Operated types within (behind_body j) u (Inside o place) = subst (Operated types within (behind_body j) u) target found in
+      let ends = ap (λ (c : Control). ends_operation (behind_body c)) behind ∙ ends_behind k own in
+      subst (λ (c : Control). NoOperationRunsOn (Names o) (behind_body c)) behind (apart.1 ends (ap within same ∙ none))
+
+  found_alone : Stands types within s → NoOperationRunsOn (Names o) (behind_body k)
+  found_alone (keeps h) = absurd ((subst (Keeps types within) is h).0)
+  found_alone (seeks on h) = sought_alone s.control is h
+  found_alone (fails e raising h) = let never : Running ≡ Raising e = sym going ∙ raising in absurd (cc never)
+
+  -- Code is behind it.
+  stack_by : (c : Control) → c ≡ assigning → AssignsThen types s.heap s.activations (rest c) → Stack types s.heap code s.activations k
+  stack_by c e then = subst (λ (j : Control). AssignsThen types s.heap s.activations (rest j)) e then
+
+  code_behind : StandsOver types s.heap s → Stack types s.heap code s.activations k
+  code_behind (runs h) = absurd (assigns_never s.control is h)
+    where
+      assigns_never : (c : Control) → c ≡ assigning → Stack types s.heap code s.activations c → ⊥
+      assigns_never _ e nothing = cc e
+      assigns_never _ e (calm f j c h') = let first_is : f ≡ frame.Assigns t = cc e in subst Calm first_is c
+      assigns_never _ e (comes_back actuals references j h') = cc e
+      assigns_never _ e (operates j h') = cc e
+  code_behind (finding on f after) = stack_by s.control is after
+  code_behind (passing e raising p after) = stack_by s.control is after
+  code_behind (ends_guard h) = absurd (guard_never s.control is h)
+    where
+      guard_never : (c : Control) → c ≡ assigning → Stack types s.heap guard s.activations c → ⊥
+      guard_never _ e (awaits v by done of part left j some p h') = cc e
+      guard_never _ e (confines j some p h') = cc e
+  code_behind (beginning i by done task left j on e h) = absurd (cc (sym is ∙ e))
+  code_behind (ending on h) = absurd (finalization_never s.activations s.control is h)
+    where
+      finalization_never : (acts : Acts) (c : Control) → c ≡ assigning → Stack types s.heap finalization acts c → ⊥
+      finalization_never acts c e (to_end i cause pool [] later e2 own' once h') = cc (sym e ∙ e2)
+      finalization_never acts c e (to_end i cause pool (task ∷ left) later e2 own' once h') = cc (sym e ∙ e2)
+      finalization_never acts c e (to_copy i m from u to width source [] left later e2 less once operand h') = cc (sym e ∙ e2)
+      finalization_never acts c e (to_copy i m from u to width source (task ∷ more) left later e2 less once operand h') = cc (sym e ∙ e2)
+  code_behind (leaving i x cause pool j on e own' h at_i gone) = absurd (cc (sym is ∙ e))
+  code_behind (storing i n to width left j on e h) = absurd (cc (sym is ∙ e))
+
+  pub runs_alone : Stands types within s → StandsOver types s.heap s → NoOperationRunsOn (Names o) k
+  runs_alone stands over = code_alone types s.heap (Names o) s.activations k (code_behind over) (found_alone stands)
+
+pub beside_run_alone : AssignmentsBesideRunAlone
+beside_run_alone program well within inside input events last run going t k is own none o place target =
+    let types = program.types.items in
+    runs_alone types within last t k going is own none o place target (last_stands program well within inside input events last run)
+    (last_holds program input events last run).fits.stands

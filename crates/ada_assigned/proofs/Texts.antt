@@ -31,10 +31,10 @@ use Rattle.ada_assigned.specs.Law.{is_empty, lies_at_hand, assigns_inside, all_a
 use Rattle.ada_assigned.proofs.Keeping.{StmtAssigns, StmtsAssign, BranchesAssign, HandlersAssign, BodyAssigns, IsAtHand, IsBeside, IsInner, InBeginning, InEnding, OperationsAssign}
 
 -- Statements that assign only where they may, and that fit.
-module _ (P : RecordPathForm → Type 0) (types : List TypeForm) (variables : List VariableForm) (texts exceptions : List (List ℕ)) (callable : List Profile)
-    (each : (target : RecordPathForm) → (not (is_some (finalization_of types target.record_type)) || lies_at_hand target) ≡ true → is_record_path types variables target ≡ true → P target) where
+module _ (P : RecordPathForm → Type 0) (types : List TypeForm) (within : ℕ → Bool) (variables : List VariableForm) (texts exceptions : List (List ℕ)) (callable : List Profile)
+    (each : (target : RecordPathForm) → (not (is_some (finalization_of types target.record_type)) || lies_at_hand within target) ≡ true → is_record_path types variables target ≡ true → P target) where
   mutual
-    stmt_assigns : (inside : Bool) (f : StmtForm) → statement_fits types variables texts exceptions callable inside f ≡ true → assigns_inside types f ≡ true
+    stmt_assigns : (inside : Bool) (f : StmtForm) → statement_fits types variables texts exceptions callable inside f ≡ true → assigns_inside types within f ≡ true
         → StmtAssigns P f
     stmt_assigns inside skips fits own = tt
     stmt_assigns inside (assigns target right) fits own = tt
@@ -61,64 +61,64 @@ module _ (P : RecordPathForm → Type 0) (types : List TypeForm) (variables : Li
         let done = stmts_fit types variables texts exceptions callable inside fs in
         let handled = handlers_fit types variables texts exceptions callable inside hs in
         let both = and_left (declared && done) handled fits in (
-          stmts_assign inside fs (and_right declared done both) (and_left (all_assign_inside types fs) (handlers_assign_inside types hs) own),
-          handlers_assign inside hs (and_right (declared && done) handled fits) (and_right (all_assign_inside types fs) (handlers_assign_inside types hs) own),
+          stmts_assign inside fs (and_right declared done both) (and_left (all_assign_inside types within fs) (handlers_assign_inside types within hs) own),
+          handlers_assign inside hs (and_right (declared && done) handled fits) (and_right (all_assign_inside types within fs) (handlers_assign_inside types within hs) own),
         )
 
-    stmts_assign : (inside : Bool) (fs : StmtsForm) → stmts_fit types variables texts exceptions callable inside fs ≡ true → all_assign_inside types fs ≡ true
+    stmts_assign : (inside : Bool) (fs : StmtsForm) → stmts_fit types variables texts exceptions callable inside fs ≡ true → all_assign_inside types within fs ≡ true
         → StmtsAssign P fs
     stmts_assign inside no_stmts fits own = tt
     stmts_assign inside (a_stmt f fs) fits own =
         let here = statement_fits types variables texts exceptions callable inside f in
         let later = stmts_fit types variables texts exceptions callable inside fs in
-        let one = assigns_inside types f in
-        let more = all_assign_inside types fs in
+        let one = assigns_inside types within f in
+        let more = all_assign_inside types within fs in
         (stmt_assigns inside f (and_left here later fits) (and_left one more own), stmts_assign inside fs (and_right here later fits) (and_right one more own))
 
     branches_assign : (inside : Bool) (branches : BranchesForm) → branches_fit types variables texts exceptions callable inside branches ≡ true
-        → branches_assign_inside types branches ≡ true → BranchesAssign P branches
+        → branches_assign_inside types within branches ≡ true → BranchesAssign P branches
     branches_assign inside (otherwise fs) fits own = stmts_assign inside fs fits own
     branches_assign inside (a_branch e fs branches) fits own =
         let condition = has_type types variables Boolean e in
         let here = stmts_fit types variables texts exceptions callable inside fs in
         let later = branches_fit types variables texts exceptions callable inside branches in
         let first = and_left (condition && here) later fits in
-        let one = all_assign_inside types fs in
-        let more = branches_assign_inside types branches in (
+        let one = all_assign_inside types within fs in
+        let more = branches_assign_inside types within branches in (
           stmts_assign inside fs (and_right condition here first) (and_left one more own),
           branches_assign inside branches (and_right (condition && here) later fits) (and_right one more own),
         )
 
     handlers_assign : (inside : Bool) (hs : HandlersForm) → handlers_fit types variables texts exceptions callable inside hs ≡ true
-        → handlers_assign_inside types hs ≡ true → HandlersAssign P hs
+        → handlers_assign_inside types within hs ≡ true → HandlersAssign P hs
     handlers_assign inside no_handlers fits own = tt
     handlers_assign inside (a_handler choices fs hs) fits own =
         let front = list_all (choice_fits exceptions) choices && has_statement fs in
         let here = stmts_fit types variables texts exceptions callable inside fs in
         let later = handlers_fit types variables texts exceptions callable inside hs in
         let first = and_left (front && here) later fits in
-        let one = all_assign_inside types fs in
-        let more = handlers_assign_inside types hs in (
+        let one = all_assign_inside types within fs in
+        let more = handlers_assign_inside types within hs in (
           stmts_assign inside fs (and_right front here first) (and_left one more own),
           handlers_assign inside hs (and_right (front && here) later fits) (and_right one more own),
         )
 
 -- A body that fits.
 body_assigns :
-    (P : RecordPathForm → Type 0) (types : List TypeForm) (texts exceptions : List (List ℕ)) (callable : List Profile) (b : BodyForm)
-    → ((target : RecordPathForm) → (not (is_some (finalization_of types target.record_type)) || lies_at_hand target) ≡ true → is_record_path types b.variables target ≡ true → P target)
-    → body_fits types texts exceptions callable b ≡ true → body_assigns_inside types b ≡ true → BodyAssigns P b
-body_assigns P types texts exceptions callable b each fits own =
+    (P : RecordPathForm → Type 0) (types : List TypeForm) (within : ℕ → Bool) (texts exceptions : List (List ℕ)) (callable : List Profile) (b : BodyForm)
+    → ((target : RecordPathForm) → (not (is_some (finalization_of types target.record_type)) || lies_at_hand within target) ≡ true → is_record_path types b.variables target ≡ true → P target)
+    → body_fits types texts exceptions callable b ≡ true → body_assigns_inside types within b ≡ true → BodyAssigns P b
+body_assigns P types within texts exceptions callable b each fits own =
     let variables = list_all (variable_fits types) b.variables in
     let creates = creates_from (length b.variables) (length b.formals) (created_in b) in
     let declared = declarations_fit types b.variables b.declarations in
     let done = stmts_fit types b.variables texts exceptions callable false b.statements in
     let handled = handlers_fit types b.variables texts exceptions callable false b.handlers in
     let four = and_left (variables && creates && declared && done) handled fits in
-    let one = all_assign_inside types b.statements in
-    let more = handlers_assign_inside types b.handlers in (
-      stmts_assign P types b.variables texts exceptions callable each false b.statements (and_right (variables && creates && declared) done four) (and_left one more own),
-      handlers_assign P types b.variables texts exceptions callable each false b.handlers
+    let one = all_assign_inside types within b.statements in
+    let more = handlers_assign_inside types within b.handlers in (
+      stmts_assign P types within b.variables texts exceptions callable each false b.statements (and_right (variables && creates && declared) done four) (and_left one more own),
+      handlers_assign P types within b.variables texts exceptions callable each false b.handlers
           (and_right (variables && creates && declared && done) handled fits) (and_right one more own),
     )
 
@@ -155,12 +155,12 @@ not_zero zero is = absurd (cc)
 not_zero (suc n) is = omega arith
 
 -- The path of a record that lies at hand.
-module _ (target : RecordPathForm) (hand : lies_at_hand target ≡ true) where
+module _ (within : ℕ → Bool) (target : RecordPathForm) (hand : lies_at_hand within target ≡ true) where
   abbrev straight : Bool
   straight = target.object.of_record && is_empty target.object.selectors
 
   abbrev inside : Bool
-  inside = not (target.object.root == 0 && target.part == 0)
+  inside = not (target.object.root == 0) || (within target.record_type && not (target.part == 0))
 
   of_record : target.object.of_record ≡ true
   of_record = and_left target.object.of_record (is_empty target.object.selectors) (and_left straight inside hand)
@@ -169,24 +169,26 @@ module _ (target : RecordPathForm) (hand : lies_at_hand target ≡ true) where
   none_selected = no_selectors target.object.selectors (and_right target.object.of_record (is_empty target.object.selectors) (and_left straight inside hand))
 
   -- It lies in the formal parameter, or in another variable.
-  path_at_hand : IsAtHand target ⊎ IsBeside target
-  path_at_hand = by (split target.object.root target.part (and_right straight inside hand))
+  path_at_hand : ((within target.record_type ≡ true) × IsAtHand target) ⊎ IsBeside target
+  path_at_hand = by (split target.object.root target.part (within target.record_type) (and_right straight inside hand))
     where
-      split : (root part : ℕ) → not (root == 0 && part == 0) ≡ true → ((root ≡ 0) × (0 < part)) ⊎ (0 < root)
-      split zero zero is = absurd (cc)
-      split zero (suc part) is = inl (refl, omega arith)
-      split (suc root) part is = inr (omega arith)
+      split :
+          (root part : ℕ) (may : Bool) → (not (root == 0) || (may && not (part == 0))) ≡ true → ((may ≡ true) × (root ≡ 0) × (0 < part)) ⊎ (0 < root)
+      split zero part false is = absurd (cc is)
+      split zero part true is = inl (refl, refl, not_zero part is)
+      split (suc root) part may is = inr (omega arith)
 
-      by : ((target.object.root ≡ 0) × (0 < target.part)) ⊎ (0 < target.object.root) → IsAtHand target ⊎ IsBeside target
-      by (inl formal) = inl (record { in_formal = formal.0; at_hand = none_selected; behind = formal.1 })
+      by : ((within target.record_type ≡ true) × (target.object.root ≡ 0) × (0 < target.part)) ⊎ (0 < target.object.root)
+          → ((within target.record_type ≡ true) × IsAtHand target) ⊎ IsBeside target
+      by (inl formal) = inl (formal.0, record { in_formal = formal.1; at_hand = none_selected; behind = formal.2 })
       by (inr other) = inr (record { of_record = of_record; at_hand = none_selected; beside = other })
 
 -- So a Finalize assigns.
 ends_at_hand :
-    (types : List TypeDefinition) (target : RecordPathForm)
-    → (not (is_some (finalization_of (map type_form types) target.record_type)) || lies_at_hand target) ≡ true → InEnding types target
-ends_at_hand types target is parts =
-    path_at_hand target (may_be (is_some (finalization_of (map type_form types) target.record_type)) (lies_at_hand target) is (said_parts types target.record_type parts))
+    (types : List TypeDefinition) (within : ℕ → Bool) (target : RecordPathForm)
+    → (not (is_some (finalization_of (map type_form types) target.record_type)) || lies_at_hand within target) ≡ true → InEnding types within target
+ends_at_hand types within target is parts =
+    path_at_hand within target (may_be (is_some (finalization_of (map type_form types) target.record_type)) (lies_at_hand within target) is (said_parts types target.record_type parts))
 
 fits_from : (count part within : ℕ) → has_parts_from count part within ≡ true → 0 < count → part + count ≤ within
 fits_from count part within is some = elim (eqb_tells count 0) [ inl h ↦ absurd (let zero_is = h.1 in omega (arith, some, zero_is)) | inr h ↦ go h.0 ]
@@ -224,140 +226,143 @@ module _ (program : Program) (well : IsWellFormed (program_form program)) where
       ∙ known_count operation.record_type
       ∙ ap (parts_for (shapes_of types)) (same_number types operation.record_type ∙ operation.numbered)
 
-  -- The path of the target, where it lies in the formal parameter.
-  module _ (of procedure : ℕ) (operation : OperationFor (program_form program) of procedure) (target : RecordPathForm)
-      (hand : lies_at_hand target ≡ true) (path : IsAtHand target) (fits : is_record_path forms operation.body.variables target ≡ true) where
-    kind_is : path_kind forms operation.body.variables target.object ≡ Some (variable.Record operation.object)
-    kind_is =
-        let first = formal_kind of procedure operation in
-        ap (λ (cs : List ℕ). selectors_kind forms (root_kind target.object.of_record (variable_kind operation.body.variables target.object.root)) cs) path.at_hand
-        ∙ ap (λ (b : Bool). root_kind b (variable_kind operation.body.variables target.object.root)) (of_record target hand)
-        ∙ ap (λ (x : ℕ). root_kind true (variable_kind operation.body.variables x)) path.in_formal
-        ∙ ap (root_kind true) first
+  -- Of these types records are assigned to inside of formal parameters.
+  module _ (within : ℕ → Bool) where
+    -- The path of the target, where it lies in the formal parameter.
+    module _ (of procedure : ℕ) (operation : OperationFor (program_form program) of procedure) (target : RecordPathForm)
+        (hand : lies_at_hand within target ≡ true) (path : IsAtHand target) (fits : is_record_path forms operation.body.variables target ≡ true) where
+      kind_is : path_kind forms operation.body.variables target.object ≡ Some (variable.Record operation.object)
+      kind_is =
+          let first = formal_kind of procedure operation in
+          ap (λ (cs : List ℕ). selectors_kind forms (root_kind target.object.of_record (variable_kind operation.body.variables target.object.root)) cs) path.at_hand
+          ∙ ap (λ (b : Bool). root_kind b (variable_kind operation.body.variables target.object.root)) (of_record within target hand)
+          ∙ ap (λ (x : ℕ). root_kind true (variable_kind operation.body.variables x)) path.in_formal
+          ∙ ap (root_kind true) first
 
-    held_parts : parts_named forms (object_named forms (access_of (path_kind forms operation.body.variables target.object))) ≡ parts_of (shapes_of types) of
-    held_parts =
-        ap (λ (o : Option VariableKind). parts_named forms (object_named forms (access_of o))) kind_is
-        ∙ object_parts of procedure operation
+      held_parts : parts_named forms (object_named forms (access_of (path_kind forms operation.body.variables target.object))) ≡ parts_of (shapes_of types) of
+      held_parts =
+          ap (λ (o : Option VariableKind). parts_named forms (object_named forms (access_of o))) kind_is
+          ∙ object_parts of procedure operation
 
-    is_inner : IsInner types of target
-    is_inner = record {
-      in_formal = path.in_formal;
-      at_hand = path.at_hand;
-      behind = path.behind;
-      within = λ some.
-          let object = object_named forms (access_of (path_kind forms operation.body.variables target.object)) in
-          let count = part_count forms target.record_type in
-          let known = known_count target.record_type in
-          let lies = and_right (has_record_at (object_components forms (access_of (path_kind forms operation.body.variables target.object))) target.first (record_components forms target.record_type))
-          (has_parts_at forms target.record_type object target.first target.part) fits in
-          let found = (count == 0) || is_found forms (length forms) target.record_type (place_from object target.first target.part) in
-          let counted = has_parts_from count target.part (parts_named forms object) in
-          let le = fits_from count target.part (parts_named forms object)
-          (and_left counted found (and_left (counted && found) (is_part_of forms target.record_type object) lies)) (omega (arith, some, known)) in
-          let held = held_parts in
-          omega (arith, le, held, known);
-    }
+      is_inner : IsInner types of target
+      is_inner = record {
+        in_formal = path.in_formal;
+        at_hand = path.at_hand;
+        behind = path.behind;
+        within = λ some.
+            let object = object_named forms (access_of (path_kind forms operation.body.variables target.object)) in
+            let count = part_count forms target.record_type in
+            let known = known_count target.record_type in
+            let lies = and_right (has_record_at (object_components forms (access_of (path_kind forms operation.body.variables target.object))) target.first (record_components forms target.record_type))
+            (has_parts_at forms target.record_type object target.first target.part) fits in
+            let found = (count == 0) || is_found forms (length forms) target.record_type (place_from object target.first target.part) in
+            let counted = has_parts_from count target.part (parts_named forms object) in
+            let le = fits_from count target.part (parts_named forms object)
+            (and_left counted found (and_left (counted && found) (is_part_of forms target.record_type object) lies)) (omega (arith, some, known)) in
+            let held = held_parts in
+            omega (arith, le, held, known);
+      }
 
-  begins_inside :
-      (of procedure : ℕ) (operation : OperationFor (program_form program) of procedure) (target : RecordPathForm)
-      → (not (is_some (finalization_of forms target.record_type)) || lies_at_hand target) ≡ true
-      → is_record_path forms operation.body.variables target ≡ true → InBeginning types of target
-  begins_inside of procedure operation target is fits parts = by (path_at_hand target hand)
-    where
-      hand : lies_at_hand target ≡ true
-      hand = may_be (is_some (finalization_of forms target.record_type)) (lies_at_hand target) is (said_parts types target.record_type parts)
+    begins_inside :
+        (of procedure : ℕ) (operation : OperationFor (program_form program) of procedure) (target : RecordPathForm)
+        → (not (is_some (finalization_of forms target.record_type)) || lies_at_hand within target) ≡ true
+        → is_record_path forms operation.body.variables target ≡ true → InBeginning types within of target
+    begins_inside of procedure operation target is fits parts = by (path_at_hand within target hand)
+      where
+        hand : lies_at_hand within target ≡ true
+        hand = may_be (is_some (finalization_of forms target.record_type)) (lies_at_hand within target) is (said_parts types target.record_type parts)
 
-      by : IsAtHand target ⊎ IsBeside target → IsInner types of target ⊎ IsBeside target
-      by (inl path) = inl (is_inner of procedure operation target hand path fits)
-      by (inr other) = inr other
+        by : ((within target.record_type ≡ true) × IsAtHand target) ⊎ IsBeside target
+            → ((within target.record_type ≡ true) × IsInner types of target) ⊎ IsBeside target
+        by (inl (may, path)) = inl (may, is_inner of procedure operation target hand path fits)
+        by (inr other) = inr other
 
-  -- The operations of a type that was found by its number.
-  abbrev Assigns : Option ProcedureNo → Type 0
-  Assigns o = (procedure : ℕ) → procedure_number o ≡ Some procedure → procedure_assigns_inside forms (slice_get (body_forms program) procedure) ≡ true
+    -- The operations of a type that was found by its number.
+    abbrev Assigns : Option ProcedureNo → Type 0
+    Assigns o = (procedure : ℕ) → procedure_number o ≡ Some procedure → procedure_assigns_inside forms within (slice_get (body_forms program) procedure) ≡ true
 
-  abbrev AllAssign : Operations → Type 0
-  AllAssign operations = Assigns operations.initialize × Assigns operations.adjust × Assigns operations.finalize
+    abbrev AllAssign : Operations → Type 0
+    AllAssign operations = Assigns operations.initialize × Assigns operations.adjust × Assigns operations.finalize
 
-  one_assigns : (o : Option ProcedureNo) → operation_assigns_inside (program_form program) o ≡ true → Assigns o
-  one_assigns None is procedure said = absurd (cc)
-  one_assigns (Some number) is procedure said =
-      let same : number.0 ≡ procedure = cc in
-      subst (λ (n : ℕ). procedure_assigns_inside forms (slice_get (body_forms program) n) ≡ true) same is
+    one_assigns : (o : Option ProcedureNo) → operation_assigns_inside (program_form program) within o ≡ true → Assigns o
+    one_assigns None is procedure said = absurd (cc)
+    one_assigns (Some number) is procedure said =
+        let same : number.0 ≡ procedure = cc in
+        subst (λ (n : ℕ). procedure_assigns_inside forms within (slice_get (body_forms program) n) ≡ true) same is
 
-  finalization_assigns : (o : Option Finalization) → type_assigns_inside (program_form program) o ≡ true → AllAssign (operations_in o)
-  finalization_assigns None is = (λ procedure said. absurd (cc), λ procedure said. absurd (cc), λ procedure said. absurd (cc))
-  finalization_assigns (Some f) is =
-      let p = program_form program in
-      let one = operation_assigns_inside p f.operations.initialize in
-      let two = operation_assigns_inside p f.operations.adjust in
-      let three = operation_assigns_inside p f.operations.finalize in
-      let both = and_left (one && two) three is in (
-        one_assigns f.operations.initialize (and_left one two both),
-        one_assigns f.operations.adjust (and_right one two both),
-        one_assigns f.operations.finalize (and_right (one && two) three is),
-      )
-
-  type_assigns : (d : TypeDefinition) → type_assigns_inside (program_form program) (finalization_in (Some (type_form d))) ≡ true → AllAssign (operations_by (Some d))
-  type_assigns (definition.Record name parts components finalization) is = finalization_assigns finalization is
-  type_assigns (definition.Access name designated pool) is = finalization_assigns None refl
-  type_assigns (definition.Object record_type) is = finalization_assigns None refl
-
-  types_assign : (of : ℕ) (ds : List TypeDefinition) → list_all (λ (t : TypeForm). type_assigns_inside (program_form program) (finalization_in (Some t))) (map type_form ds) ≡ true
-      → AllAssign (operations_by (find (λ d. is_number of (number_by (Some d))) ds))
-  types_assign of [] is = finalization_assigns None refl
-  types_assign of (d ∷ ds) is = go (is_number of (number_by (Some d))) (types_assign of ds (and_right here later is))
-    where
-      here : Bool
-      here = type_assigns_inside (program_form program) (finalization_in (Some (type_form d)))
-
-      later : Bool
-      later = list_all (λ (t : TypeForm). type_assigns_inside (program_form program) (finalization_in (Some t))) (map type_form ds)
-
-      go : (passes : Bool) → AllAssign (operations_by (find (λ u. is_number of (number_by (Some u))) ds))
-          → AllAssign (operations_by (if passes then Some d else find (λ u. is_number of (number_by (Some u))) ds))
-      go true others = type_assigns d (and_left here later is)
-      go false others = others
-
-  module _ (assigns : operations_assign_inside (program_form program) ≡ true) where
-    known_assign : (of : ℕ) → AllAssign (operations_of types of)
-    known_assign of = types_assign of types assigns
-
-    begins_by : (by : Birth) (of procedure : ℕ) → begun_by by (operations_of types of) ≡ Some procedure
-        → procedure_assigns_inside forms (slice_get (body_forms program) procedure) ≡ true
-    begins_by Creation of procedure is = (known_assign of).0 procedure is
-    begins_by Copy of procedure is = (known_assign of).1 procedure is
-    begins_by (Adjustment number) of procedure is = (known_assign of).1 procedure is
-
-    body_fits_at : (procedure : ℕ) (b : BodyForm) → slice_get (body_forms program) procedure ≡ Some b
-        → body_fits forms (program_form program).texts (program_form program).exceptions (map profile_of (take procedure (body_forms program))) b ≡ true
-    body_fits_at procedure b is =
-        body_at forms (program_form program).texts (program_form program).exceptions [] (body_forms program) procedure b well.bodies_fit is
-
-    begins_assign : (of procedure : ℕ) → OperationFor (program_form program) of procedure
-        → procedure_assigns_inside forms (slice_get (body_forms program) procedure) ≡ true → (b : BodyForm) → slice_get (body_forms program) procedure ≡ Some b
-        → BodyAssigns (InBeginning types of) b
-    begins_assign of procedure operation own b is =
+    finalization_assigns : (o : Option Finalization) → type_assigns_inside (program_form program) within o ≡ true → AllAssign (operations_in o)
+    finalization_assigns None is = (λ procedure said. absurd (cc), λ procedure said. absurd (cc), λ procedure said. absurd (cc))
+    finalization_assigns (Some f) is =
         let p = program_form program in
-        let there = operation.there in
-        let found : Some operation.body ≡ Some b = sym there ∙ is in
-        let same : operation.body ≡ b = cc found in
-        subst (BodyAssigns (InBeginning types of)) same
-        (body_assigns (InBeginning types of) forms p.texts p.exceptions (map profile_of (take procedure p.bodies)) operation.body
-        (begins_inside of procedure operation) (body_fits_at procedure operation.body there)
-        (ap (procedure_assigns_inside forms) (sym there) ∙ own))
+        let one = operation_assigns_inside p within f.operations.initialize in
+        let two = operation_assigns_inside p within f.operations.adjust in
+        let three = operation_assigns_inside p within f.operations.finalize in
+        let both = and_left (one && two) three is in (
+          one_assigns f.operations.initialize (and_left one two both),
+          one_assigns f.operations.adjust (and_right one two both),
+          one_assigns f.operations.finalize (and_right (one && two) three is),
+        )
 
-    ends_assign : (procedure : ℕ) → procedure_assigns_inside forms (slice_get (body_forms program) procedure) ≡ true → (b : BodyForm)
-        → slice_get (body_forms program) procedure ≡ Some b → BodyAssigns (InEnding types) b
-    ends_assign procedure own b is =
-        let p = program_form program in
-        body_assigns (InEnding types) forms p.texts p.exceptions (map profile_of (take procedure p.bodies)) b
-        (λ target may path. ends_at_hand types target may) (body_fits_at procedure b is)
-        (ap (procedure_assigns_inside forms) (sym is) ∙ own)
+    type_assigns : (d : TypeDefinition) → type_assigns_inside (program_form program) within (finalization_in (Some (type_form d))) ≡ true → AllAssign (operations_by (Some d))
+    type_assigns (definition.Record name parts components finalization) is = finalization_assigns finalization is
+    type_assigns (definition.Access name designated pool) is = finalization_assigns None refl
+    type_assigns (definition.Object record_type) is = finalization_assigns None refl
 
-    pub operations_assign : OperationsAssign types (body_forms program)
-    operations_assign = record {
-      beginning = λ by of procedure said b is.
-          begins_assign of procedure (beginning_for (program_form program) types refl well.operations_fit by of procedure said) (begins_by by of procedure said) b is;
-      ending = λ of procedure said b is. ends_assign procedure ((known_assign of).2 procedure said) b is;
-    }
+    types_assign : (of : ℕ) (ds : List TypeDefinition) → list_all (λ (t : TypeForm). type_assigns_inside (program_form program) within (finalization_in (Some t))) (map type_form ds) ≡ true
+        → AllAssign (operations_by (find (λ d. is_number of (number_by (Some d))) ds))
+    types_assign of [] is = finalization_assigns None refl
+    types_assign of (d ∷ ds) is = go (is_number of (number_by (Some d))) (types_assign of ds (and_right here later is))
+      where
+        here : Bool
+        here = type_assigns_inside (program_form program) within (finalization_in (Some (type_form d)))
+
+        later : Bool
+        later = list_all (λ (t : TypeForm). type_assigns_inside (program_form program) within (finalization_in (Some t))) (map type_form ds)
+
+        go : (passes : Bool) → AllAssign (operations_by (find (λ u. is_number of (number_by (Some u))) ds))
+            → AllAssign (operations_by (if passes then Some d else find (λ u. is_number of (number_by (Some u))) ds))
+        go true others = type_assigns d (and_left here later is)
+        go false others = others
+
+    module _ (assigns : operations_assign_inside (program_form program) within ≡ true) where
+      known_assign : (of : ℕ) → AllAssign (operations_of types of)
+      known_assign of = types_assign of types assigns
+
+      begins_by : (by : Birth) (of procedure : ℕ) → begun_by by (operations_of types of) ≡ Some procedure
+          → procedure_assigns_inside forms within (slice_get (body_forms program) procedure) ≡ true
+      begins_by Creation of procedure is = (known_assign of).0 procedure is
+      begins_by Copy of procedure is = (known_assign of).1 procedure is
+      begins_by (Adjustment number) of procedure is = (known_assign of).1 procedure is
+
+      body_fits_at : (procedure : ℕ) (b : BodyForm) → slice_get (body_forms program) procedure ≡ Some b
+          → body_fits forms (program_form program).texts (program_form program).exceptions (map profile_of (take procedure (body_forms program))) b ≡ true
+      body_fits_at procedure b is =
+          body_at forms (program_form program).texts (program_form program).exceptions [] (body_forms program) procedure b well.bodies_fit is
+
+      begins_assign : (of procedure : ℕ) → OperationFor (program_form program) of procedure
+          → procedure_assigns_inside forms within (slice_get (body_forms program) procedure) ≡ true → (b : BodyForm) → slice_get (body_forms program) procedure ≡ Some b
+          → BodyAssigns (InBeginning types within of) b
+      begins_assign of procedure operation own b is =
+          let p = program_form program in
+          let there = operation.there in
+          let found : Some operation.body ≡ Some b = sym there ∙ is in
+          let same : operation.body ≡ b = cc found in
+          subst (BodyAssigns (InBeginning types within of)) same
+          (body_assigns (InBeginning types within of) forms within p.texts p.exceptions (map profile_of (take procedure p.bodies)) operation.body
+          (begins_inside of procedure operation) (body_fits_at procedure operation.body there)
+          (ap (procedure_assigns_inside forms within) (sym there) ∙ own))
+
+      ends_assign : (procedure : ℕ) → procedure_assigns_inside forms within (slice_get (body_forms program) procedure) ≡ true → (b : BodyForm)
+          → slice_get (body_forms program) procedure ≡ Some b → BodyAssigns (InEnding types within) b
+      ends_assign procedure own b is =
+          let p = program_form program in
+          body_assigns (InEnding types within) forms within p.texts p.exceptions (map profile_of (take procedure p.bodies)) b
+          (λ target may path. ends_at_hand types within target may) (body_fits_at procedure b is)
+          (ap (procedure_assigns_inside forms within) (sym is) ∙ own)
+
+      pub operations_assign : OperationsAssign types within (body_forms program)
+      operations_assign = record {
+        beginning = λ by of procedure said b is.
+            begins_assign of procedure (beginning_for (program_form program) types refl well.operations_fit by of procedure said) (begins_by by of procedure said) b is;
+        ending = λ of procedure said b is. ends_assign procedure ((known_assign of).2 procedure said) b is;
+      }

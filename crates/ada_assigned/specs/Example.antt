@@ -1,7 +1,7 @@
 -- A program whose Initialize assigns to a component of its formal parameter, and one whose Initialize assigns to a record object that it declares; and what runs of
 -- them show.
 
-use Rattle.std.specs.Prelude.{◌≡◌, ℕ, true, List, [], ◌∷◌}
+use Rattle.std.specs.Prelude.{◌≡◌, ℕ, true, false, List, [], ◌∷◌}
 use Rattle.ada_program.specs.declared.program.Program.{Program}
 use Rattle.ada_program.specs.Controlled.{shapes_of, operations_of}
 use Rattle.ada_program.specs.Form.{item_of_record, assigns_record, no_stmts, a_stmt, stmt_forms}
@@ -9,13 +9,18 @@ use Rattle.ada_program.specs.ProgramForm.{BodyForm, program_form, body_forms}
 use Rattle.ada_program.specs.WellFormed.{IsWellFormed}
 use Rattle.ada_parts.specs.Task.{Task}
 use Rattle.ada_meaning.specs.declared.event.Cause.TheVariants.{Assigning}
+use Rattle.ada_meaning.specs.declared.state.Id.{Id}
+use Rattle.ada_meaning.specs.declared.state.Mode.TheVariants.{Running}
+use Rattle.ada_meaning.specs.declared.state.Place.{Place}
 use Rattle.ada_meaning.specs.declared.state.Value.{Value}
-use Rattle.ada_meaning.specs.Frame.{Frame, ends, Treats, Copies}
+use Rattle.ada_meaning.specs.declared.state.Value.TheVariants.{Null, Names, Part}
+use Rattle.ada_meaning.specs.Frame.{Frame, ends, Treats, Copies, Assigns}
+use Rattle.ada_meaning.specs.Step.{first_or, older, operands}
 use Rattle.ada_meaning.specs.Named.{State}
 use Rattle.ada_order.specs.Example.{InSomeRun}
 use Rattle.ada_finalized.specs.Example.{controlled_shapes, object_x, object_y, object_stmts, outer_operations}
 use Rattle.ada_finalized.specs.Nested.{record_at, assigns_component}
-use Rattle.ada_assigned.specs.Law.{RunsAlone, operations_assign_inside}
+use Rattle.ada_assigned.specs.Law.{RunsAlone, operations_assign_inside, is_of_operation}
 
 -- procedure Initialize (X : in out Outer) is Y : Inner; begin X.C := Y; end;
 abbrev pub assigning_initialize : BodyForm
@@ -33,7 +38,7 @@ abbrev pub InitializeAssignsInside : Type 0
 InitializeAssignsInside =
     (program : Program) × (shapes_of program.types.items ≡ controlled_shapes) × (operations_of program.types.items 1 ≡ outer_operations)
     × (body_forms program ≡ assigning_initialize ∷ []) × (stmt_forms program ≡ object_stmts) × IsWellFormed (program_form program)
-    × (operations_assign_inside (program_form program) ≡ true) × InSomeRun program (λ events last. AssignsToComponent last)
+    × (operations_assign_inside (program_form program) (λ t. true) ≡ true) × InSomeRun program (λ events last. AssignsToComponent last)
 
 -- procedure Initialize (X : in out Outer) is Y : Inner; begin Y := X.C; end;
 abbrev pub copying_initialize : BodyForm
@@ -47,9 +52,17 @@ AssignsToDeclared s =
     (number : ℕ) × (tasks : List Task) × (first : ℕ) × (t : ℕ) × (k : List (Frame Value))
     × (s.control ≡ Treats object_y (ends (Assigning number)) tasks ∷ Copies first t ∷ k) × RunsAlone object_y k
 
--- A program of the same types, in which Outer overrides Initialize so, meets the premises of the law, too: in a run of it Initialize assigns to Y.
+-- The records of that assignment have been found, that of Y before that of the source.
+abbrev pub FindsDeclared : State → Type 0
+FindsDeclared s =
+    (s.mode ≡ Running) × (t : ℕ) × (k : List (Frame Value)) × (s.control ≡ Assigns t ∷ k) × (is_of_operation k ≡ true)
+    × (o : Id) × (place : Place) × (first_or Null (older (operands s)) ≡ Part o place) × (object_y ≡ Names o)
+
+-- A program of the same types, in which Outer overrides Initialize so, and none of its operations assigns inside of its formal parameter, meets the premises of
+-- both laws, too: in a run of it Initialize assigns to Y.
 abbrev pub InitializeAssignsBeside : Type 0
 InitializeAssignsBeside =
     (program : Program) × (shapes_of program.types.items ≡ controlled_shapes) × (operations_of program.types.items 1 ≡ outer_operations)
     × (body_forms program ≡ copying_initialize ∷ []) × (stmt_forms program ≡ object_stmts) × IsWellFormed (program_form program)
-    × (operations_assign_inside (program_form program) ≡ true) × InSomeRun program (λ events last. AssignsToDeclared last)
+    × (operations_assign_inside (program_form program) (λ t. false) ≡ true) × InSomeRun program (λ events last. AssignsToDeclared last)
+    × InSomeRun program (λ events last. FindsDeclared last)

@@ -13,12 +13,17 @@ use Rattle.ada_program.specs.WellFormed.{IsWellFormed, finalization_in, finaliza
 use Rattle.ada_meaning.specs.declared.event.Cause.TheVariants.{Assigning}
 use Rattle.ada_meaning.specs.declared.event.Halt.TheVariants.{Erroneous}
 use Rattle.ada_meaning.specs.declared.event.Why.TheVariants.{FinalizesTwice}
+use Rattle.ada_meaning.specs.declared.state.Id.{Id}
+use Rattle.ada_meaning.specs.declared.state.Mode.TheVariants.{Running}
+use Rattle.ada_meaning.specs.declared.state.Place.{Place}
 use Rattle.ada_meaning.specs.declared.state.Value.{Value}
+use Rattle.ada_meaning.specs.declared.state.Value.TheVariants.{Null, Names, Part}
 use Rattle.ada_meaning.specs.Frame.{Frame, ends}
 use Rattle.ada_meaning.specs.Frame as frame
 use Rattle.ada_meaning.specs.Named.{State}
 use Rattle.ada_meaning.specs.Run.{Event, Run, Halts, first_state}
-use Rattle.ada_finalized.specs.Law.{NoOperationRunsOn, finalized_before}
+use Rattle.ada_meaning.specs.Step.{first_or, older, operands}
+use Rattle.ada_finalized.specs.Law.{NoOperationRunsOn, finalized_before, waits_for_operation}
 
 -- Nothing is selected behind a variable (4.1).
 abbrev pub is_empty : (selectors : List ℕ) → Bool
@@ -26,17 +31,20 @@ is_empty [] = true
 is_empty (c ∷ cs) = false
 
 -- A record lies in a record variable of an operation, and no access value is followed on the way (4.1). If that is the formal parameter, which is the first
--- variable, it is not that as a whole.
-abbrev pub lies_at_hand : RecordPathForm → Bool
-lies_at_hand target = target.object.of_record && is_empty target.object.selectors && not (target.object.root == 0 && target.part == 0)
+-- variable, it is not that as a whole, and is of a type of which records may be assigned to there.
+abbrev pub lies_at_hand : (within : ℕ → Bool) → RecordPathForm → Bool
+lies_at_hand within target =
+    target.object.of_record && is_empty target.object.selectors
+    && (not (target.object.root == 0) || (within target.record_type && not (target.part == 0)))
 
-module _ (types : List TypeForm) where
+-- The record types of the program, and those of which operations may assign to records inside of their formal parameters.
+module _ (types : List TypeForm) (within : ℕ → Bool) where
   abbrev mutual
     -- A statement assigns to records with controlled parts as wholes only where they lie at hand (5.2).
     pub assigns_inside : StmtForm → Bool
     assigns_inside skips = true
     assigns_inside (assigns target right) = true
-    assigns_inside (assigns_record target items) = not (is_some (finalization_of types target.record_type)) || lies_at_hand target
+    assigns_inside (assigns_record target items) = not (is_some (finalization_of types target.record_type)) || lies_at_hand within target
     assigns_inside (frees access path) = true
     assigns_inside (gets target) = true
     assigns_inside (writes e) = true
@@ -75,19 +83,20 @@ module _ (types : List TypeForm) where
   procedure_assigns_inside (Some b) = body_assigns_inside b
 
 -- So it is with what overrides an operation, if one is overridden (7.6).
-abbrev pub operation_assigns_inside : ProgramForm → Option ProcedureNo → Bool
-operation_assigns_inside p None = true
-operation_assigns_inside p (Some procedure) = procedure_assigns_inside p.types (slice_get p.bodies procedure.0)
+abbrev pub operation_assigns_inside : ProgramForm → (within : ℕ → Bool) → Option ProcedureNo → Bool
+operation_assigns_inside p within None = true
+operation_assigns_inside p within (Some procedure) = procedure_assigns_inside p.types within (slice_get p.bodies procedure.0)
 
 -- So it is with each operation of a type: an Initialize, an Adjust and a Finalize assign so.
-abbrev pub type_assigns_inside : ProgramForm → Option Finalization → Bool
-type_assigns_inside p None = true
-type_assigns_inside p (Some f) =
-    operation_assigns_inside p f.operations.initialize && operation_assigns_inside p f.operations.adjust && operation_assigns_inside p f.operations.finalize
+abbrev pub type_assigns_inside : ProgramForm → (within : ℕ → Bool) → Option Finalization → Bool
+type_assigns_inside p within None = true
+type_assigns_inside p within (Some f) =
+    operation_assigns_inside p within f.operations.initialize && operation_assigns_inside p within f.operations.adjust
+    && operation_assigns_inside p within f.operations.finalize
 
 -- So it is with each operation of each type of a program.
-abbrev pub operations_assign_inside : ProgramForm → Bool
-operations_assign_inside p = list_all (λ t. type_assigns_inside p (finalization_in (Some t))) p.types
+abbrev pub operations_assign_inside : ProgramForm → (within : ℕ → Bool) → Bool
+operations_assign_inside p within = list_all (λ t. type_assigns_inside p within (finalization_in (Some t))) p.types
 
 -- Behind the body that runs an operation waits for it (7.6); and where that is one of this object, no other operation of the object does.
 abbrev pub RunsAlone : Value → List (Frame Value) → Type 0
@@ -101,8 +110,28 @@ RunsAlone v (f ∷ k) = RunsAlone v k
 -- that operation runs, if the record lies in that object, no value is finalized there that does not exist (7.6.1). Nor is one in any other object.
 abbrev pub AssignmentsInsideStand : Type 0
 AssignmentsInsideStand =
-    (program : Program) → IsWellFormed (program_form program) → operations_assign_inside (program_form program) ≡ true
+    (program : Program) → IsWellFormed (program_form program) → (within : ℕ → Bool) → operations_assign_inside (program_form program) within ≡ true
     → (input : List ℤ) (events : List Event) (last : State) → Run program (first_state program input) events last
     → (object : Value) (number : ℕ) (tasks : List Task) (first t : ℕ) (k : List (Frame Value))
     → last.control ≡ frame.Treats object (ends (Assigning number)) tasks ∷ frame.Copies first t ∷ k → RunsAlone object k
     → Halts program last (Erroneous FinalizesTwice) → ⊥
+
+-- An operation waits first (7.6).
+abbrev pub waits_first : List (Frame Value) → Bool
+waits_first [] = false
+waits_first (f ∷ k) = waits_for_operation f
+
+-- The body that runs in front of this is that of an operation itself: one waits behind its end. Else it is one that is called (6.5).
+abbrev pub is_of_operation : List (Frame Value) → Bool
+is_of_operation [] = false
+is_of_operation (frame.Returns actuals references ∷ k) = waits_first k
+is_of_operation (f ∷ k) = is_of_operation k
+
+-- So where the body of an operation itself assigns to a record of a type of which none is assigned to inside of a formal parameter, no operation runs of the
+-- object in which that lies: the body declares it (3.3.1).
+abbrev pub AssignmentsBesideRunAlone : Type 0
+AssignmentsBesideRunAlone =
+    (program : Program) → IsWellFormed (program_form program) → (within : ℕ → Bool) → operations_assign_inside (program_form program) within ≡ true
+    → (input : List ℤ) (events : List Event) (last : State) → Run program (first_state program input) events last → last.mode ≡ Running
+    → (record_type : ℕ) (k : List (Frame Value)) → last.control ≡ frame.Assigns record_type ∷ k → is_of_operation k ≡ true → within record_type ≡ false
+    → (o : Id) (place : Place) → first_or Null (older (operands last)) ≡ Part o place → NoOperationRunsOn (Names o) k

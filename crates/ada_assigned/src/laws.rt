@@ -1,6 +1,6 @@
 //! The laws of assignments in operations. Each is a function that does nothing, and whose contract is the theorem.
 
-ghost use Rattle.ada_assigned.specs.Law.{AssignmentsInsideStand};
+ghost use Rattle.ada_assigned.specs.Law.{AssignmentsBesideRunAlone, AssignmentsInsideStand};
 ghost use Rattle.ada_assigned.specs.Example.{InitializeAssignsBeside, InitializeAssignsInside};
 
 /// Where the body of an Initialize, an Adjust or a Finalize assigns to a record with controlled parts as a whole (5.2), which lies in its
@@ -8,6 +8,12 @@ ghost use Rattle.ada_assigned.specs.Example.{InitializeAssignsBeside, Initialize
 /// as long as no other operation of that object runs.
 pub fn assignments_inside_stand()
     ensures { AssignmentsInsideStand }
+{}
+
+/// Where it assigns so to a record of a type of which no operation assigns to one inside of its formal parameter, no operation at all runs of the
+/// object in which that lies: the body has declared it (3.3.1).
+pub fn assignments_beside_run_alone()
+    ensures { AssignmentsBesideRunAlone }
 {}
 
 /// Well-formed programs meet the premises: an Initialize assigns to a component of its formal parameter that is controlled

@@ -11,8 +11,13 @@ use Rattle.ada_quiet.specs.Apart.{is_bare_item}
 use Rattle.ada_quiet.specs.Bare.{has_bare_objects}
 use Rattle.std.proofs.lemmas.Bool.{or_cases, or_left, or_right}
 use Rattle.ada_quiet.specs.Calm.{is_known_calm}
-use Rattle.ada_quiet.specs.Frugal.{Thrift, assigns_at_hand, allocates_frugally, called_by, is_bare_initial, is_copied_initial, is_inert, is_unadjusted, is_unadjusted_named, is_unadjusted_initial, is_frugal_declaration, are_frugal_declarations, is_frugal_stmt, are_frugal, are_frugal_branches, are_frugal_handlers, is_frugal_body, frugal_from, frugal_procedures, frugal_operations, thrift_of}
+use Rattle.ada_quiet.specs.Frugal.{Thrift, assigns_at_hand, allocates_frugally, called_by, is_bare_initial, is_copied_initial, is_unfinalized, is_unadjusted, is_unadjusted_named, is_unadjusted_initial, is_frugal_declaration, are_frugal_declarations, is_frugal_stmt, are_frugal, are_frugal_branches, are_frugal_handlers, is_frugal_body, frugal_from, frugal_procedures, frugal_operations, thrift_of, is_inert, is_copied}
 use Rattle.ada_quiet.proofs.InUse.{others}
+
+-- One of two tests is passed, where one is of two that ask for more.
+either_more : (first less more : Bool) → (less ≡ true → more ≡ true) → (first || less) ≡ true → (first || more) ≡ true
+either_more true less more asks is = refl
+either_more false less more asks is = asks is
 
 -- Of two tests one is chosen in the same way.
 either : (which a b c d : Bool) → (a ≡ true → c ≡ true) → (b ≡ true → d ≡ true) → (if which then a else b) ≡ true → (if which then c else d) ≡ true
@@ -50,12 +55,6 @@ module _ (one other : Thrift) (same : one.types ≡ other.types) (alike : one.un
       let known = λ (marks : List Bool) (types : List TypeForm). is_known_calm marks (finalization_of types t) in
       sym (ap (λ (marks : List Bool). known marks one.types) told ∙ ap (known more) same) ∙ h
 
-  inert_more : (t : ℕ) → is_inert one t ≡ true → is_inert other t ≡ true
-  inert_more t h =
-      others (is_known_calm one.unfinalized (finalization_of one.types t)) (is_unadjusted one t)
-      (is_known_calm other.unfinalized (finalization_of other.types t)) (is_unadjusted other t)
-      (known_more t one.unfinalized other.unfinalized finalized) (known_more t one.unadjusted other.unadjusted alike) h
-
   -- So is an initial value of a type that overrides no Adjust.
   unadjusted_more : (o : Option ℕ) → is_unadjusted_named one o ≡ true → is_unadjusted_named other o ≡ true
   unadjusted_more None h = absurd (cc h)
@@ -92,17 +91,33 @@ module _ (one other : Thrift) (same : one.types ≡ other.types) (alike : one.un
       others (is_frugal_declaration one d) (are_frugal_declarations one ds) (is_frugal_declaration other d) (are_frugal_declarations other ds)
       (declaration_more d) (declarations_more ds) h
 
-  -- So is a record with controlled parts that lies at hand,
+  -- So is what is copied to a record, and a record for which nothing is called,
+  copied_to : (t : ℕ) → is_copied one t ≡ true → is_copied other t ≡ true
+  copied_to t h =
+      elim (or_cases one.untracked (is_unadjusted one t) h) [
+        | inl none ↦ or_left other.untracked (is_unadjusted other t) (sym untracked ∙ none)
+        | inr known ↦ or_right other.untracked (is_unadjusted other t) (known_more t one.unadjusted other.unadjusted alike known)
+      ]
+
+  inert_more : (t : ℕ) → is_inert one t ≡ true → is_inert other t ≡ true
+  inert_more t h =
+      others (is_unfinalized one t) (is_unadjusted one t) (is_unfinalized other t) (is_unadjusted other t)
+      (known_more t one.unfinalized other.unfinalized finalized) (known_more t one.unadjusted other.unadjusted alike) h
+
+  -- a record with controlled parts that lies at hand,
   hand_more : (target : RecordPathForm) → assigns_at_hand one target ≡ true → assigns_at_hand other target ≡ true
   hand_more target h =
       let t = target.record_type in
       let near = not (record_path_raises target) in
-      let inside = not (target.object.root == 0 && target.part == 0) in
-      others (one.operation && is_inert one t && near) inside (other.operation && is_inert other t && near) inside
-      (others (one.operation && is_inert one t) near (other.operation && is_inert other t) near
-      (others one.operation (is_inert one t) other.operation (is_inert other t) operates (inert_more t))
+      let beside = not (target.object.root == 0) in
+      let part = not (target.part == 0) in
+      others (one.operation && is_copied one t && near) (beside || (is_inert one t && part)) (other.operation && is_copied other t && near)
+      (beside || (is_inert other t && part))
+      (others (one.operation && is_copied one t) near (other.operation && is_copied other t) near
+      (others one.operation (is_copied one t) other.operation (is_copied other t) operates (copied_to t))
       (λ is. is))
-      (λ is. is) h
+      (either_more beside (is_inert one t && part) (is_inert other t && part)
+      (others (is_inert one t) part (is_inert other t) part (inert_more t) (λ is. is))) h
 
   -- and so is one that is assigned.
   assigned_more : (target : RecordPathForm) (items : List ItemForm) → is_frugal_stmt one (assigns_record target items) ≡ true

@@ -55,9 +55,17 @@ is_unadjusted_initial thrift t = is_unadjusted_named thrift (object_named thrift
 abbrev pub is_copied_initial : Thrift → (object_type : ℕ) → Bool
 is_copied_initial thrift t = thrift.untracked || is_unadjusted_initial thrift t
 
--- A record type is inert: nothing is called as a value ends to which another record is assigned, nor as that is adjusted then (5.2, 7.6).
+-- It is known of a record type that nothing is called as a value ends to which another record is assigned (5.2, 7.6).
+abbrev pub is_unfinalized : Thrift → (record_type : ℕ) → Bool
+is_unfinalized thrift t = is_known_calm thrift.unfinalized (finalization_of thrift.types t)
+
+-- And nothing is called as it is adjusted, either.
 abbrev pub is_inert : Thrift → (record_type : ℕ) → Bool
-is_inert thrift t = is_known_calm thrift.unfinalized (finalization_of thrift.types t) && is_unadjusted thrift t
+is_inert thrift t = is_unfinalized thrift t && is_unadjusted thrift t
+
+-- Another record may be copied to one of a type: no Adjust tracks, or none is called for it (5.2, 7.6).
+abbrev pub is_copied : Thrift → (record_type : ℕ) → Bool
+is_copied thrift t = thrift.untracked || is_unadjusted thrift t
 
 -- A declaration is that of a variable (3.3.1), and so it is with what that is given at first; or of a record object that is initialized by default, or that may
 -- get its initial value: no collection and no pool is created.
@@ -72,16 +80,17 @@ is_frugal_declaration thrift (declares_record x t (Some items)) = is_bare_initia
 abbrev pub are_frugal_declarations : Thrift → List DeclarationForm → Bool
 are_frugal_declarations thrift ds = list_all (is_frugal_declaration thrift) ds
 
--- A record with controlled parts is assigned to as a whole (5.2) in the body of an operation alone, and only where it is inert, and lies at hand: in a record
--- variable, and no access value is followed on the way (4.1). If that is the formal parameter, which is the first variable, it is not that as a whole.
+-- A record with controlled parts is assigned to as a whole (5.2) in the body of an operation alone, and only where no Adjust tracks, or none is called for it,
+-- and it lies at hand: in a record variable, and no access value is followed on the way (4.1). If that is the formal parameter, which is the first variable,
+-- nothing is called for it at all, and it is not that as a whole.
 abbrev pub assigns_at_hand : Thrift → RecordPathForm → Bool
 assigns_at_hand thrift target =
-    thrift.operation && is_inert thrift target.record_type && not (record_path_raises target)
-    && not (target.object.root == 0 && target.part == 0)
+    thrift.operation && is_copied thrift target.record_type && not (record_path_raises target)
+    && (not (target.object.root == 0) || (is_inert thrift target.record_type && not (target.part == 0)))
 
 module _ (thrift : Thrift) where
   abbrev mutual
-    -- A statement assigns a record with controlled parts as a whole only where that is inert and lies at hand, and copies none into another one (5.2), gives
+    -- A statement assigns a record with controlled parts as a whole only where it lies at hand, and copies none into another one (5.2), gives
     -- values to the components of no new object with such parts (4.8), and calls procedures with frugal bodies alone (6.4).
     pub is_frugal_stmt : StmtForm → Bool
     is_frugal_stmt skips = true

@@ -1,5 +1,5 @@
 //! Declarations, statements and bodies, where they are frugal: they allocate, move, follow and free objects (4.8, 13.11.2), assign records
-//! without controlled parts, and in operations inert ones that lie at hand (5.2), call procedures with frugal bodies alone (6.4), and
+//! without controlled parts, and in operations others that lie at hand (5.2), call procedures with frugal bodies alone (6.4), and
 //! declare variables, and record objects. What has controlled parts of these objects is initialized by default, or is a copy for which no
 //! Adjust is called, unless none tracks in the program (3.3.1, 7.6); and of what they allocate, by default.
 
@@ -148,23 +148,38 @@ fn is_frugal_call(frugal: &[bool], procedure: ProcedureNo) -> bool
     }
 }
 
-/// Whether a record type is inert: nothing is called as a value of it ends to which another record is assigned, nor as that is adjusted
-/// then (5.2, 7.6).
+/// Whether nothing is called as a value of a record type ends to which another record is assigned (5.2, 7.6).
+fn is_unfinalized(thrift: Thrift<'_>, record: TypeNo) -> bool
+    ensures { result ≡ rules.is_unfinalized (thrift_in thrift.entry) record.0 }
+{
+    is_known_calm(thrift.unfinalized, finalization_of(thrift.types, record.0))
+}
+
+/// Whether nothing is called as it is adjusted, either.
 fn is_inert(thrift: Thrift<'_>, record: TypeNo) -> bool
     ensures { result ≡ rules.is_inert (thrift_in thrift.entry) record.0 }
 {
-    is_known_calm(thrift.unfinalized, finalization_of(thrift.types, record.0))
-        && is_unadjusted(thrift, record)
+    is_unfinalized(thrift, record) && is_unadjusted(thrift, record)
 }
 
-/// Whether the body is that of an operation, and a record with controlled parts that it assigns to as a whole (5.2) is inert, and lies at
-/// hand: in a record variable, and no access value is followed on the way (4.1). If that is the formal parameter, which is the first
-/// variable, it is not that as a whole.
+/// Whether another record may be copied to one of a type: no Adjust tracks, or none is called for it (5.2, 7.6).
+fn is_copied(thrift: Thrift<'_>, record: TypeNo) -> bool
+    ensures { result ≡ rules.is_copied (thrift_in thrift.entry) record.0 }
+{
+    thrift.untracked || is_unadjusted(thrift, record)
+}
+
+/// Whether the body is that of an operation, and another record may be copied to one with controlled parts that it assigns to as a whole
+/// (5.2), which lies at hand: in a record variable, and no access value is followed on the way (4.1). If that is the formal parameter,
+/// which is the first variable, nothing is called for it at all, and it is not that as a whole.
 fn assigns_at_hand(thrift: Thrift<'_>, target: &RecordPath) -> bool
     ensures { result ≡ rules.assigns_at_hand (thrift_in thrift.entry) (record_path_form target.now) }
 {
-    let formal = target.object.root.0 == 0 && target.part.0 == 0;
-    thrift.operation && is_inert(thrift, target.record) && !record_path_raises(target) && !formal
+    thrift.operation
+        && is_copied(thrift, target.record)
+        && !record_path_raises(target)
+        && (target.object.root.0 != 0
+            || (is_inert(thrift, target.record) && target.part.0 != 0))
 }
 
 /// Whether a record that is assigned to as a whole lies so, if it has controlled parts; and else whether nothing is copied into it that
@@ -179,7 +194,7 @@ fn assigns_frugally(thrift: Thrift<'_>, target: &RecordPath, items: &[Item]) -> 
     }
 }
 
-/// Whether a statement assigns a record with controlled parts as a whole only where that is inert and lies at hand, and copies none into
+/// Whether a statement assigns a record with controlled parts as a whole only where that lies at hand, and copies none into
 /// another one (5.2), gives values to the components of no new object with such parts (4.8), and calls procedures with frugal bodies alone
 /// (6.4).
 #[cycle(statements)]
@@ -269,7 +284,7 @@ fn are_frugal_handlers(thrift: Thrift<'_>, handlers: &[Handler]) -> bool
 }
 
 /// Whether a body is frugal: it allocates objects, moves, follows and frees; it calls procedures with frugal bodies alone, assigns records
-/// with controlled parts as wholes only where these are inert and lie at hand, and it is that of an operation, gives values to the
+/// with controlled parts as wholes only where these lie at hand, and it is that of an operation, gives values to the
 /// components of no new one, and declares variables and record objects. An exception may come out of it. Linear in the body.
 fn is_frugal_body(thrift: Thrift<'_>, procedure: &Procedure) -> bool
     ensures { result ≡ rules.is_frugal_body (thrift_in thrift.entry) (body_form procedure.now) }

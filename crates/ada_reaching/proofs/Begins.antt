@@ -1,6 +1,6 @@
 -- Where bodies begin that shun some access types, in a call (6.4) or as an operation of what is freed (7.6): what was there waits.
 
-use Rattle.std.proofs.Common.{◌≡◌, ℕ, Bool, true, List, [], ◌∷◌, Option, Some, refl, sym, ap, inr, subst}
+use Rattle.std.proofs.Common.{◌≡◌, ℕ, Bool, true, List, [], ◌∷◌, Option, Some, refl, sym, ap, inr, subst, ◌⊎◌}
 use Rattle.std.specs.List.{slice_get}
 use Rattle.ada_program.specs.Form.{ActualForm}
 use Rattle.ada_program.specs.ProgramForm.{BodyForm, ProgramForm, seen_in}
@@ -14,7 +14,7 @@ use Rattle.ada_meaning.specs.Named.{State, named}
 use Rattle.ada_typed.proofs.Bodies.{seen_as}
 use Rattle.ada_reaching.specs.Apart.{Apart}
 use Rattle.ada_reaching.specs.Forms.{body_shuns}
-use Rattle.ada_reaching.specs.Reaching.{AreElsewhere, FrameShuns, LeftShuns, begins_anew}
+use Rattle.ada_reaching.specs.Reaching.{AreElsewhere, FrameShuns, LeftShuns, begins_anew, WaitsToCopy}
 use Rattle.ada_reaching.proofs.Elsewhere.{given_places_elsewhere}
 use Rattle.ada_reaching.proofs.Going.{World, IsRun, Left, On, stays}
 
@@ -41,7 +41,8 @@ module _ (w : World) where
   pub beginning_goes :
       (procedure : ℕ) (b : BodyForm) (given : List Value) (actuals : List ActualForm) (references : List Value) (k : List (Frame Value))
       (acts : List (Activation Value)) (s : State) → slice_get w.p.bodies procedure ≡ Some b → body_shuns w.p.types w.shuns w.apart b ≡ true
-      → AreElsewhere w.ghosts w.unnamed given → AreElsewhere w.ghosts w.unnamed references → IsRun w acts s.masters s.heap → Left w k → begins_anew k ≡ true
+      → AreElsewhere w.ghosts w.unnamed given → AreElsewhere w.ghosts w.unnamed references → IsRun w acts s.masters s.heap → Left w k
+      → (begins_anew k ≡ true) ⊎ WaitsToCopy w.ghosts (frame.Returns actuals references) k acts
       → On w (beginning procedure b given actuals references k acts s)
   beginning_goes procedure b given actuals references k acts s is shun others referring r h anew =
       let entered : Master = record { number = s.next; items = [] } in

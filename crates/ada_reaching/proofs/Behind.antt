@@ -1,6 +1,7 @@
 -- What is left behind an operation of an object that is freed (7.6.1, 13.11.2) or allocated (7.6, 4.8), where bodies that shun some access types wait for it.
 
-use Rattle.std.proofs.Common.{◌≡◌, ◌≤◌, ◌⊎◌, ℕ, suc, Bool, true, false, not, List, [], ◌∷◌, ◌++◌, length, Option, Some, arith, refl, sym, ap, ◌∙◌, subst, inl, inr}
+use Rattle.ada_meaning.specs.declared.event.Cause.TheVariants.{Assigning}
+use Rattle.std.proofs.Common.{◌≡◌, ◌≤◌, ◌⊎◌, ℕ, suc, Bool, true, false, not, List, [], ◌∷◌, ◌++◌, length, Option, Some, arith, refl, sym, ap, ◌∙◌, subst, inl, inr, ◌&&◌}
 use Rattle.ada_parts.specs.Task.{Task}
 use Rattle.ada_program.specs.ProgramForm.{TypeForm, BodyForm, ProgramForm}
 use Rattle.ada_meaning.specs.declared.event.Cause.{Cause}
@@ -12,35 +13,88 @@ use Rattle.ada_meaning.specs.declared.state.Value.TheVariants.{Null, Names, Scal
 use Rattle.ada_meaning.specs.Frame.{Frame, Treatment, ends}
 use Rattle.ada_meaning.specs.Frame as frame
 use Rattle.ada_meaning.specs.State.{Activation, Master}
-use Rattle.ada_meaning.specs.Step.{older, operands_of, operating, places_of, procedure_of, treating}
+use Rattle.ada_meaning.specs.Step.{older, operands_of, operating, places_of, procedure_of, treating, first_or}
 use Rattle.ada_meaning.specs.Named.{Object, State, named, object_at}
 use Rattle.ada_typed.proofs.Control as typed
 use Rattle.ada_untouched.specs.Untouched.{IsInSight}
 use Rattle.ada_reaching.specs.Apart.{Apart}
 use Rattle.ada_reaching.specs.Law.{GhostsStay}
-use Rattle.ada_reaching.specs.Reaching.{AreElsewhere, AreLow, IsGhost, IsInner, IsLast, IsReaching, LeftShuns, OperandSeeks, Seeks, is_leaving}
+use Rattle.ada_reaching.specs.Reaching.{AreElsewhere, AreLow, IsGhost, IsInner, IsLast, IsReaching, LeftShuns, OperandSeeks, Seeks, is_leaving, begins_anew, comes_to_copy, WaitsToCopy}
 use Rattle.ada_reaching.proofs.Going.{may_jump}
 
-module _ (types : List TypeForm) (shuns : ℕ → Bool) (apart : Apart) (ghosts : Id → Bool) where
-  -- From no object anything is sought behind an operation.
-  operation_seeks :
-      (may : Bool) (access : ℕ) (f : Frame Value) (k : List (Frame Value)) → typed.is_operation f ≡ true → Seeks types shuns apart may access (f ∷ k)
-  operation_seeks may access (frame.Awaits v by done of part tasks) k is = tt
-  operation_seeks may access frame.Confines k is = tt
-  operation_seeks may access f k is = absurd (cc)
+-- Behind an operation begins anew what is left, or a record is copied there that the newest operand names, which is no ghost.
+abbrev pub WaitsSo : (ghosts : Id → Bool) → (f : Frame Value) → List (Frame Value) → List Value → Type 0
+WaitsSo ghosts f k vs = (begins_anew (f ∷ k) ≡ true) ⊎ (IsInSight ghosts (first_or Null vs))
 
-  -- Nothing is sought there.
+module _ (types : List TypeForm) (shuns : ℕ → Bool) (apart : Apart) (ghosts : Id → Bool) where
+  -- From an object that is no ghost nothing more is sought behind an operation.
+  operation_seeks :
+      (access : ℕ) (may : Bool) (f : Frame Value) (k : List (Frame Value)) → typed.is_operation f ≡ true → (begins_anew (f ∷ k) ≡ true) ⊎ (may ≡ true)
+      → Seeks types shuns apart may access (f ∷ k)
+  operation_seeks access may (frame.Awaits v by done of part tasks) k is so = tt
+  operation_seeks access may frame.Confines k is (inl anew) = λ copies. absurd (not_both (comes_to_copy k) copies anew)
+    where
+      not_both : (copies : Bool) → copies ≡ true → (not copies && true) ≡ true → ⊥
+      not_both true copies' anew' = cc anew'
+      not_both false copies' anew' = cc copies'
+  operation_seeks access may frame.Confines k is (inr is_may) = λ copies. is_may
+  operation_seeks access may f k is so = absurd (cc)
+
+  -- By the newest operand.
+  named_so : (o : Id) (f : Frame Value) (k : List (Frame Value)) (vs : List Value) → WaitsSo ghosts f k (Names o ∷ vs) → (begins_anew (f ∷ k) ≡ true) ⊎ (not (ghosts o) ≡ true)
+  named_so o f k vs (inl anew) = inl anew
+  named_so o f k vs (inr sees) = inr (ap not sees)
+
+  -- Nothing more is sought there.
   waiting_seeks :
-      (heap : List Object) (m : Mode) (f : Frame Value) (k : List (Frame Value)) (vs : List Value) → typed.is_operation f ≡ true
+      (heap : List Object) (m : Mode) (f : Frame Value) (k : List (Frame Value)) (vs : List Value) → typed.is_operation f ≡ true → WaitsSo ghosts f k vs
       → OperandSeeks types shuns apart ghosts heap m (f ∷ k) vs
-  waiting_seeks heap Running f k [] is = tt
-  waiting_seeks heap Running f k (Null ∷ vs) is = tt
-  waiting_seeks heap Running f k (Names o ∷ vs) is = λ x at. operation_seeks (not (ghosts o)) x.cell.access f k is
-  waiting_seeks heap Running f k (Scalar v ∷ vs) is = tt
-  waiting_seeks heap Running f k (Part o place ∷ vs) is = tt
-  waiting_seeks heap (Raising e) f k vs is = tt
-  waiting_seeks heap Exiting f k vs is = tt
-  waiting_seeks heap Returning f k vs is = tt
+  waiting_seeks heap Running f k [] is so = tt
+  waiting_seeks heap Running f k (Null ∷ vs) is so = tt
+  waiting_seeks heap Running f k (Names o ∷ vs) is so = λ x at. operation_seeks x.cell.access (not (ghosts o)) f k is (named_so o f k vs so)
+  waiting_seeks heap Running f k (Scalar v ∷ vs) is so = tt
+  waiting_seeks heap Running f k (Part o place ∷ vs) is so = tt
+  waiting_seeks heap (Raising e) f k vs is so = tt
+  waiting_seeks heap Exiting f k vs is so = tt
+  waiting_seeks heap Returning f k vs is so = tt
+
+  -- So it is in another heap, in which each ghost is as it was.
+  module _ (before heap : List Object) (there : (o : Id) → ghosts o ≡ true → (x : Object) × (object_at before o ≡ Some x)) where
+    sought_still : (may : Bool) (u access : ℕ) (f : Frame Value) (k : List (Frame Value)) → typed.is_operation f ≡ true → Seeks types shuns apart may u (f ∷ k)
+        → Seeks types shuns apart may access (f ∷ k)
+    sought_still may u access (frame.Awaits v by done of part tasks) k is seeks = tt
+    sought_still may u access frame.Confines k is seeks = seeks
+    sought_still may u access f k is seeks = absurd (cc)
+
+    -- From what is no ghost nothing more is sought.
+    other_sought : (o : Id) (b : Bool) → ghosts o ≡ b → (f : Frame Value) (k : List (Frame Value)) (access : ℕ) → typed.is_operation f ≡ true
+        → ((x : Object) → object_at before o ≡ Some x → Seeks types shuns apart (not (ghosts o)) x.cell.access (f ∷ k))
+        → Seeks types shuns apart (not (ghosts o)) access (f ∷ k)
+    other_sought o true ghost f k access is seeks = let x = there o ghost in sought_still (not (ghosts o)) x.0.cell.access access f k is (seeks x.0 x.1)
+    other_sought o false plain f k access is seeks = operation_seeks access (not (ghosts o)) f k is (inr (ap not plain))
+
+    running_still :
+        (f : Frame Value) (k : List (Frame Value)) (vs : List Value) → typed.is_operation f ≡ true → OperandSeeks types shuns apart ghosts before Running (f ∷ k) vs
+        → OperandSeeks types shuns apart ghosts heap Running (f ∷ k) vs
+    running_still f k [] is seeks = tt
+    running_still f k (Null ∷ vs) is seeks = tt
+    running_still f k (Names o ∷ vs) is seeks = λ x at. other_sought o (ghosts o) refl f k x.cell.access is seeks
+    running_still f k (Scalar v ∷ vs) is seeks = tt
+    running_still f k (Part o place ∷ vs) is seeks = tt
+
+    waiting_still :
+        (m after : Mode) (f : Frame Value) (k : List (Frame Value)) (vs : List Value) → typed.is_operation f ≡ true → (after ≡ Running → m ≡ Running)
+        → OperandSeeks types shuns apart ghosts before m (f ∷ k) vs → OperandSeeks types shuns apart ghosts heap after (f ∷ k) vs
+    waiting_still m Running f k vs is goes seeks =
+        running_still f k vs is (subst (λ (mode : Mode). OperandSeeks types shuns apart ghosts before mode (f ∷ k) vs) (goes refl) seeks)
+    waiting_still m (Raising e) f k vs is goes seeks = tt
+    waiting_still m Exiting f k vs is goes seeks = tt
+    waiting_still m Returning f k vs is goes seeks = tt
+
+-- Where a ghost is, an object is there.
+ghost_there : (types : List TypeForm) (shuns : ℕ → Bool) (b : Bool) (found : Option Object) → IsGhost types shuns b found → (x : Object) × (found ≡ Some x)
+ghost_there types shuns false found ghost = (ghost.object, ghost.there)
+ghost_there types shuns true found ghost = (ghost.object, ghost.there)
 
 -- What is treated first makes what is left no shorter.
 treated_longer :
@@ -62,6 +116,11 @@ module _ (p : ProgramForm) (shuns : ℕ → Bool) (apart : Apart) (ghosts unname
       → IsInner ghosts unnamed (frame.Returns [] []) (f ∷ k) suspended left
   inner_bodies f k ms suspended left inside (inl (last, none)) = absurd (inside (ap older last))
   inner_bodies f k ms suspended left inside (inr inner) = inner
+
+  waits_so : (f : Frame Value) (k : List (Frame Value)) (suspended : List (Activation Value))
+      → (begins_anew (f ∷ k) ≡ true) ⊎ WaitsToCopy ghosts (frame.Returns [] []) (f ∷ k) suspended → WaitsSo ghosts f k (operands_of suspended)
+  waits_so f k suspended (inl anew) = inl anew
+  waits_so f k suspended (inr waits) = inr waits.sees
 
   -- So it is where the body of the operation has begun, in a master of its own.
   begun_bodies :
@@ -86,7 +145,7 @@ module _ (p : ProgramForm) (shuns : ℕ → Bool) (apart : Apart) (ghosts unname
         masters = ap (λ (all : List Master). older all) owns;
         control = inner.others;
         jumps = may_jump s.mode (f ∷ k) (operation_stands f k is);
-        seeks = waiting_seeks p.types shuns apart ghosts s.heap s.mode f k (operands_of s.activations) is;
+        seeks = waiting_seeks p.types shuns apart ghosts s.heap s.mode f k (operands_of s.activations) is (waits_so f k s.activations inner.anew);
       }
 
   -- The body of an operation has begun inside such bodies: they go on behind it, unless that is behind all of them.
@@ -108,9 +167,9 @@ module _ (p : ProgramForm) (shuns : ℕ → Bool) (apart : Apart) (ghosts unname
   -- They go on so, whatever happens meanwhile to other objects than the ghosts.
   pub waiting_kept :
       (f : Frame Value) (k : List (Frame Value)) (s after : State) → typed.is_operation f ≡ true → s.control ≡ f ∷ k → after.control ≡ s.control
-      → after.activations ≡ s.activations → after.masters ≡ s.masters → GhostsStay ghosts s.heap after.heap
+      → after.activations ≡ s.activations → after.masters ≡ s.masters → (after.mode ≡ Running → s.mode ≡ Running) → GhostsStay ghosts s.heap after.heap
       → IsReaching p shuns apart ghosts unnamed behind lower s → IsReaching p shuns apart ghosts unnamed behind lower after
-  waiting_kept f k s after is first same active owned stay reaching = record {
+  waiting_kept f k s after is first same active owned mode stay reaching = record {
     ghosts_there = λ o ghost. subst (λ (found : Option Object). IsGhost p.types shuns (unnamed o) found) (sym (stay o ghost)) (reaching.ghosts_there o ghost);
     are_ghosts = reaching.are_ghosts;
     low = λ o x ghost at. reaching.low o x ghost (sym (stay o ghost) ∙ at);
@@ -130,15 +189,18 @@ module _ (p : ProgramForm) (shuns : ℕ → Bool) (apart : Apart) (ghosts unname
     seeks =
         subst (λ (left : List (Frame Value)). OperandSeeks p.types shuns apart ghosts after.heap after.mode left (operands_of after.activations))
         (sym (same ∙ first))
-        (waiting_seeks p.types shuns apart ghosts after.heap after.mode f k (operands_of after.activations) is);
+        (subst (λ (acts : List (Activation Value)). OperandSeeks p.types shuns apart ghosts after.heap after.mode (f ∷ k) (operands_of acts)) (sym active)
+        (waiting_still p.types shuns apart ghosts s.heap after.heap
+        (λ o ghost. ghost_there p.types shuns (unnamed o) (object_at s.heap o) (reaching.ghosts_there o ghost)) s.mode after.mode f k (operands_of s.activations) is mode
+        (subst (λ (left : List (Frame Value)). OperandSeeks p.types shuns apart ghosts s.heap s.mode left (operands_of s.activations)) first reaching.seeks)));
   }
 
   -- So it is behind the body of a Finalize.
   pub reaching_kept :
       (k : List (Frame Value)) (s after : State) → s.control ≡ frame.Confines ∷ k → after.control ≡ s.control → after.activations ≡ s.activations
-      → after.masters ≡ s.masters → GhostsStay ghosts s.heap after.heap → IsReaching p shuns apart ghosts unnamed behind lower s
+      → after.masters ≡ s.masters → (after.mode ≡ Running → s.mode ≡ Running) → GhostsStay ghosts s.heap after.heap → IsReaching p shuns apart ghosts unnamed behind lower s
       → IsReaching p shuns apart ghosts unnamed behind lower after
-  reaching_kept k s after first same active owned stay reaching = waiting_kept frame.Confines k s after refl first same active owned stay reaching
+  reaching_kept k s after first same active owned mode stay reaching = waiting_kept frame.Confines k s after refl first same active owned mode stay reaching
 
   -- An object of which a part is finalized, and which ends behind that, is no ghost.
   pub ends_other :
@@ -147,6 +209,16 @@ module _ (p : ProgramForm) (shuns : ℕ → Bool) (apart : Apart) (ghosts unname
       → IsInSight ghosts v
   ends_other v cause [] k procedure ms suspended left = left.2.0
   ends_other v cause (task ∷ tasks) k procedure ms suspended left = left.2.0.0
+
+  -- Nor is one of which a record is finalized that is assigned to (5.2).
+  pub assigned_other :
+      (v : Value) (number first t to width : ℕ) (tasks : List Task) (k : List (Frame Value)) (procedure : Option ℕ) (ms : List Master)
+      (suspended : List (Activation Value))
+      → LeftShuns p shuns apart ghosts unnamed behind lower procedure
+      (frame.Confines ∷ treating v (ends (Assigning number)) tasks (frame.Copies first t ∷ frame.StoresRecord v to width ∷ k)) ms suspended
+      → IsInSight ghosts v
+  assigned_other v number first t to width [] k procedure ms suspended left = left.2.2.0
+  assigned_other v number first t to width (task ∷ tasks) k procedure ms suspended left = left.2.0.0
 
   -- What is left of such bodies is longer than what is behind all of them.
   pub left_longer :

@@ -1,6 +1,6 @@
 -- Calls in bodies that shun some access types (6.4): their actual parameters, and how they begin and end.
 
-use Rattle.std.proofs.Common.{◌≡◌, ℕ, Bool, true, ◌++◌, List, [], ◌∷◌, Option, Some, None, refl, sym, ap, subst, take}
+use Rattle.std.proofs.Common.{◌≡◌, ℕ, Bool, true, ◌++◌, List, [], ◌∷◌, Option, Some, None, refl, sym, ap, subst, take, inl, ◌⊎◌, inr, ◌∙◌}
 use Rattle.std.specs.List.{list_all, slice_get}
 use Rattle.std.proofs.lemmas.Bool.{and_parts}
 use Rattle.ada_program.specs.declared.program.Exception.TheVariants.{ConstraintError}
@@ -23,11 +23,11 @@ use Rattle.ada_meaning.specs.Step.{procedure_of, places_of, operands_of, with_op
 use Rattle.ada_meaning.specs.Named.{Object, State, named, object_at, look, refer, whole}
 use Rattle.ada_untouched.specs.Untouched.{IsInSight}
 use Rattle.ada_reaching.specs.Forms.{selectors_shun, actual_shuns, body_shuns}
-use Rattle.ada_reaching.specs.Reaching.{IsElsewhere, AreElsewhere, LeftShuns, IsInner, begins_anew}
+use Rattle.ada_reaching.specs.Reaching.{IsElsewhere, AreElsewhere, LeftShuns, IsInner, begins_anew, WaitsToCopy, is_leaving}
 use Rattle.ada_reaching.specs.Law.{AreApart}
 use Rattle.ada_reaching.proofs.Begins.{beginning_goes}
 use Rattle.ada_reaching.proofs.Elsewhere.{elsewhere_append, elsewhere_reverse, elsewhere_take, given_values_elsewhere, references_elsewhere, stored_elsewhere, copied_elsewhere}
-use Rattle.ada_reaching.proofs.Going.{World, variables_in, IsRun, Runs, Left, On, Goes, operands_run, places_run, stays, gives, jumps}
+use Rattle.ada_reaching.proofs.Going.{World, variables_in, IsRun, Runs, Left, On, Goes, operands_run, places_run, stays, gives, jumps, reaches, seen_seeks, any_mode, OperandsSeek, may_jump}
 use Rattle.ada_reaching.proofs.Paths.{found_there, component_elsewhere, Sound, Fine, holder_goes}
 use Rattle.ada_reaching.proofs.Selections.{IsRooted, held_in}
 
@@ -161,7 +161,7 @@ module _ (w : World) where
       (elsewhere_take w.ghosts w.unnamed (operand_count actuals) (operands s) r.operands) in
       beginning_goes w procedure b (given_values actuals vs) actuals (references_in actuals vs) s.control (with_operands [] s.activations) s is shun
       (given_values_elsewhere w.ghosts w.unnamed actuals vs given) (references_elsewhere w.ghosts w.unnamed actuals vs given)
-      (operands_run w [] s.activations s.masters s.heap tt r) h anew
+      (operands_run w [] s.activations s.masters s.heap tt r) h (inl anew)
 
 module _ (w : World) where
   -- What goes back to components is stored there next, in front of what shuns the types.
@@ -185,21 +185,55 @@ module _ (w : World) where
     resumed_run = subst (λ (acts : List (Activation Value)). IsRun caller acts s.masters s.heap) (sym r.waits)
         (record { runs = refl; waits = refl; owns = r.owns; places = inner.places; operands = inner.operands; same = r.same })
 
+    -- It goes on behind a Finalize, in front of the copy of a record, which looks at no ghost.
+    copies_on : WaitsToCopy w.ghosts f s.control w.suspended → (m : Mode) → On w (record s { activations = older s.activations; mode = m })
+    copies_on waits m =
+        let after = record s { activations = older s.activations; mode = m } in
+        reaches caller after resumed_run inner.others (may_jump m s.control (ap is_leaving waits.is))
+        (subst (λ (k : List (Frame Value)). OperandsSeek caller s.heap m k (operands_of (older s.activations))) (sym waits.is)
+        (subst (λ (acts : List (Activation Value)). OperandsSeek caller s.heap m (frame.Confines ∷ waits.rest) (operands_of acts)) (sym r.waits)
+        (any_mode caller s.heap m (frame.Confines ∷ waits.rest) (operands_of w.suspended)
+        (seen_seeks caller s.heap (frame.Confines ∷ waits.rest) (operands_of w.suspended) waits.sees (λ may u is_may copies. is_may)))))
+
     -- It goes on without anything given back.
     pub left_goes : (m : Mode) → On w (record s { activations = older s.activations; mode = m })
-    left_goes m = stays caller (record s { activations = older s.activations; mode = m }) resumed_run inner.others inner.anew
+    left_goes m = by inner.anew
+      where
+        by : (begins_anew s.control ≡ true) ⊎ WaitsToCopy w.ghosts f s.control w.suspended → On w (record s { activations = older s.activations; mode = m })
+        by (inl anew) = stays caller (record s { activations = older s.activations; mode = m }) resumed_run inner.others anew
+        by (inr waits) = copies_on waits m
 
     -- It gets back what it is to get.
-    pub returned_goes : (m : Mode) (actuals : List ActualForm) (references : List Value) → AreParts references → AreElsewhere w.ghosts w.unnamed references
-        → On w (record (returned named actuals references s) { mode = m })
-    returned_goes m actuals references parts others =
+    given_goes : (m : Mode) (actuals : List ActualForm) (references : List Value) → AreParts references → AreElsewhere w.ghosts w.unnamed references
+        → begins_anew s.control ≡ true → On w (record (returned named actuals references s) { mode = m })
+    given_goes m actuals references parts others anew =
         let copied = copied_back actuals (places s) (places_of (older s.activations)) in
         let stored = stored_back actuals (places s) ++ operands_of (older s.activations) in
         let placed : IsRun caller (with_places copied (older s.activations)) s.masters s.heap =
         places_run caller copied (older s.activations) s.masters s.heap
         (copied_elsewhere w.ghosts w.unnamed actuals (places s) (places_of (older s.activations)) r.places resumed_run.places) resumed_run in
-        let front = storing_left caller references s.control parts others (inner.others, inner.anew) in
+        let front = storing_left caller references s.control parts others (inner.others, anew) in
         stays caller (record (returned named actuals references s) { mode = m })
         (operands_run caller _ (with_places copied (older s.activations)) s.masters s.heap
         (elsewhere_append w.ghosts w.unnamed (stored_back actuals (places s)) _
         (stored_elsewhere w.ghosts w.unnamed actuals (places s) r.places) resumed_run.operands) placed) front.0 front.1
+
+    pub returned_goes : (m : Mode) (actuals : List ActualForm) (references : List Value) → f ≡ frame.Returns actuals references → AreParts references
+        → AreElsewhere w.ghosts w.unnamed references → On w (record (returned named actuals references s) { mode = m })
+    returned_goes m actuals references is parts others = by inner.anew
+      where
+        -- Where it is an operation that ends, nothing is given back.
+        back_none : (actuals' : List ActualForm) (references' : List Value) → actuals' ≡ [] → references' ≡ []
+            → On w (record s { activations = older s.activations; mode = m }) → On w (record (returned named actuals' references' s) { mode = m })
+        back_none actuals' references' none nothing on = rw (none, nothing) (by_acts (older s.activations) on)
+          where
+            by_acts : (acts : List (Activation Value)) → On w (record s { activations = acts; mode = m })
+                → On w (record s { activations = with_operands (operands_of acts) (with_places (places_of acts) acts); mode = m })
+            by_acts [] on' = on'
+            by_acts (a ∷ acts) on' = on'
+
+        by : (begins_anew s.control ≡ true) ⊎ WaitsToCopy w.ghosts f s.control w.suspended → On w (record (returned named actuals references s) { mode = m })
+        by (inl anew) = given_goes m actuals references parts others anew
+        by (inr waits) =
+            let same : frame.Returns actuals references ≡ frame.Returns [] [] = sym is ∙ waits.ends_operation in
+            back_none actuals references (cc same) (cc same) (copies_on waits m)

@@ -131,7 +131,7 @@ both_apart shunned one other = record {
     finalizes = λ access of part number tasks ends left overrides. ap beside.calls (overrides_third of number overrides);
     initializes = λ access of part number starts begun overrides. absurd (cc starts);
     undoes = λ access of part number starts begun overrides. absurd (cc starts);
-    assigns_quietly = λ record_type of part tasks assigned left. absurd (cc assigned);
+    overwrites = λ record_type of part number tasks assigned left said. absurd (cc assigned);
     adjusts = λ record_type of part number tasks copied left overrides. absurd (cc copied);
   };
 }

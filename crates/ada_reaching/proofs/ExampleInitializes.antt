@@ -144,7 +144,7 @@ both_apart shunned one other = record {
     finalizes = λ access of part number tasks ends left overrides. absurd (cc ends);
     initializes = λ access of part number starts begun overrides. ap beside.calls (overrides_third of number overrides);
     undoes = λ access of part number starts begun overrides. absurd (finalizes_none of number overrides);
-    assigns_quietly = λ record_type of part tasks assigned left. absurd (cc assigned);
+    overwrites = λ record_type of part number tasks assigned left said. absurd (cc assigned);
     adjusts = λ record_type of part number tasks copied left overrides. absurd (cc copied);
   };
 }

@@ -185,7 +185,7 @@ calls_first p definitions own own_is shunned does = record {
     finalizes = λ access of part number tasks ends left overrides. absurd (cc ends);
     initializes = λ access of part number starts begun overrides. absurd (cc starts);
     undoes = λ access of part number starts begun overrides. absurd (cc starts);
-    assigns_quietly = λ record_type of part tasks assigned left. absurd (cc assigned);
+    overwrites = λ record_type of part number tasks assigned left said. absurd (cc assigned);
     adjusts = λ record_type of part number tasks copied left overrides. absurd (cc copied);
   };
 }
@@ -321,7 +321,7 @@ pub end_shuns :
     → LeftShuns p shuns may ghosts unnamed behind lower (Some 0) (frame.Returns actuals [] ∷ done (frame.Returns [] [] ∷ behind)) (fills ∷ [])
     (record { procedure = Some 1; places = held; operands = [] } ∷ suspended)
 end_shuns p may ghosts unnamed behind lower actuals fills held suspended owned others =
-    inr (record { references = tt; places = others; operands = tt; anew = refl; others = (refl, refl, (refl, refl, (tt, refl, (owned, inl (refl, refl))))) })
+    inr (record { references = tt; places = others; operands = tt; anew = inl refl; others = (refl, refl, (refl, refl, (tt, refl, (owned, inl (refl, refl))))) })
 
 -- So it is in front of that, where the first procedure has nothing left to do but its end.
 pub done_shun :

@@ -34,7 +34,7 @@ use Rattle.ada_reaching.specs.Reaching.{AreOwnedApart, InMasters, IsElsewhere, I
 use Rattle.ada_reaching.specs.Forms.{expression_shuns, condition_shuns, path_shuns, statements_shun, branches_shun, may_follow, may_own}
 use Rattle.ada_reaching.specs.Law.{AreApart, FirstHousesIts, GhostsStay, InnermostHousesIts, NewestHousesIts, AllGoOn}
 use Rattle.ada_reaching.proofs.Elsewhere.{elsewhere_drop, elsewhere_first, unary_elsewhere, binary_elsewhere, whole_elsewhere}
-use Rattle.ada_reaching.proofs.Going.{World, variables_in, Runs, LeftIn, Left, On, GoesRunning, OperandsSeek, ValueSeeks, changed_run, low_there, operands_run, stays, runs_on, sought, popped_runs, put_runs}
+use Rattle.ada_reaching.proofs.Going.{World, variables_in, Runs, LeftIn, Left, On, GoesRunning, OperandsSeek, ValueSeeks, changed_run, low_there, operands_run, stays, runs_on, sought, popped_runs, put_runs, reaches, none_jumps, newest_seek, confined_seeks}
 use Rattle.ada_reaching.proofs.Masters.{declared_goes, in_own, left_run, older_owned, own_in, shorter_run}
 use Rattle.ada_reaching.proofs.Members.{IsMember, member_home, member_listed, member_there}
 use Rattle.ada_reaching.proofs.Paths.{Sound, Fine, by_ghost, found_there, in_sight, same_object, step_goes, record_goes}
@@ -116,7 +116,7 @@ module _ (w : World) where
       → Left w (frame.Returns actuals references ∷ s.control) → Runs w s → On w (back named actuals references s)
   returns_go actuals references s on parts (inl (last, none)) r = absurd (on last)
   returns_go actuals references s on parts (inr inner) r =
-      returned_goes w s (frame.Returns actuals references) r inner s.mode actuals references parts inner.references
+      returned_goes w s (frame.Returns actuals references) r inner s.mode actuals references refl parts inner.references
 
   -- A member of an item of the bodies' own is no ghost, since each ghost has its home in one of those before.
   member_sight :
@@ -345,7 +345,9 @@ module _ (w : World) where
         treats_goes w tds are_apart v treatment tasks s h.0.0 h.0.1 seeks running r h.2 h.1
     frame_goes (frame.Awaits v by done of part tasks) s sound on parts pair h houses root seeks running r =
         awaited_goes w v by done of part tasks (look s.heap v) s h.0.0 h.0.1 r h.2 h.1
-    frame_goes frame.Confines s sound on parts pair h houses root seeks running r = runs_on w s running r h.2 h.1
+    frame_goes frame.Confines s sound on parts pair h houses root seeks running r =
+        reaches w s r h.2 (none_jumps s.mode s.control running)
+        (newest_seek w s.heap s.mode s.control (operands s) (λ o x is at. confined_seeks w (not (w.ghosts o)) s.control x.cell.access h.1 (seeks o x is at)))
     frame_goes (frame.Resumes mode) s sound on parts pair h houses root seeks running r = stays w (record s { mode = mode }) r h.2 h.1
     frame_goes frame.Writes s sound on parts pair h houses root seeks running r =
         line_goes w (reads_integer (newest named s)) (popped s) (popped_runs w s r) h.2 h.1

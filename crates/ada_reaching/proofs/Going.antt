@@ -1,11 +1,11 @@
 -- How states change of bodies that shun some access types: they go on so, and each ghost stays as it is.
 
-use Rattle.std.proofs.Common.{◌≡◌, ℕ, ◌+◌, zero, suc, Bool, true, false, not, List, [], ◌∷◌, ◌++◌, Option, Some, None, refl, sym, ap, ◌∙◌, inl, inr, subst}
+use Rattle.std.proofs.Common.{◌≡◌, ℕ, ◌+◌, zero, suc, Bool, true, false, not, List, [], ◌∷◌, ◌++◌, Option, Some, None, refl, sym, ap, ◌∙◌, inl, inr, subst, ◌||◌, ◌⊎◌}
 use Rattle.std.specs.List.{list_all, slice_get, slice_set}
-use Rattle.std.proofs.lemmas.Bool.{and_from, and_parts}
+use Rattle.std.proofs.lemmas.Bool.{and_from, and_parts, or_cases}
 use Rattle.ada_program.specs.ProgramForm.{VariableForm, ProgramForm, seen_in}
 use Rattle.ada_program.specs.WellFormed.{type_fits}
-use Rattle.ada_meaning.specs.declared.event.Cause.TheVariants.{Assigning}
+use Rattle.ada_meaning.specs.declared.event.Cause.TheVariants.{Assigning, Leaving, Freeing, Undoing}
 use Rattle.ada_meaning.specs.declared.state.Id.{Id}
 use Rattle.ada_meaning.specs.declared.state.Mode.{Mode}
 use Rattle.ada_meaning.specs.declared.state.Mode.TheVariants.{Running, Raising, Exiting, Returning}
@@ -15,11 +15,11 @@ use Rattle.ada_meaning.specs.Frame.{Frame, ends}
 use Rattle.ada_meaning.specs.Frame as frame
 use Rattle.ada_meaning.specs.Heap.{Cell}
 use Rattle.ada_meaning.specs.State.{Activation, Master}
-use Rattle.ada_meaning.specs.Step.{procedure_of, places_of, operands_of, with_places, with_operands, operands, places, older, computed, popped, jumping, put, stored_from}
+use Rattle.ada_meaning.specs.Step.{procedure_of, places_of, operands_of, with_places, with_operands, operands, places, older, computed, popped, jumping, put, stored_from, first_or}
 use Rattle.ada_meaning.specs.Named.{Object, State, Next, named, object_at, changed, on_object, filled, store, create, new_object}
 use Rattle.ada_untouched.specs.Untouched.{IsInSight}
 use Rattle.ada_untouched.proofs.Heaps.{set_there, one_or_other}
-use Rattle.ada_reaching.specs.Reaching.{IsGhost, IsOfShunned, IsDeclared, IsElsewhere, AreElsewhere, AreLow, LeftShuns, MayJump, Seeks, OperandSeeks, begins_anew, is_leaving, seeks_nothing}
+use Rattle.ada_reaching.specs.Reaching.{IsGhost, IsOfShunned, IsDeclared, IsElsewhere, AreElsewhere, AreLow, LeftShuns, MayJump, Seeks, OperandSeeks, begins_anew, is_leaving, seeks_nothing, comes_to_copy}
 use Rattle.ada_reaching.specs.Apart.{Apart}
 use Rattle.ada_reaching.specs.Law.{GhostsStay, GoesOn, AllGoOn}
 use Rattle.ada_reaching.proofs.Elsewhere.{elsewhere_older, elsewhere_set}
@@ -181,7 +181,28 @@ module _ (w : World) where
   anew_seeks may (frame.Receives c ∷ k) u anew = absurd (cc)
   anew_seeks may (frame.FreesIn access c ∷ k) u anew = absurd (cc)
   anew_seeks may (frame.Treats v (ends (Assigning number)) tasks ∷ k) u anew = absurd (cc)
+  anew_seeks may (frame.Confines ∷ k) u anew = λ copies. absurd (cc (anew, copies))
   anew_seeks may (f ∷ k) u anew = tt
+
+  -- Where a record is copied next, or the one is finalized to which it is assigned, that alone is sought.
+  pub copying_seeks : (may : Bool) (k : List (Frame Value)) (u : ℕ) → comes_to_copy k ≡ true → may ≡ true → Seeks w.p.types w.shuns w.apart may u k
+  copying_seeks may [] u copies is_may = absurd (cc)
+  copying_seeks may (frame.Copies c t ∷ k) u copies is_may = is_may
+  copying_seeks may (frame.Treats v (ends (Assigning number)) tasks ∷ k) u copies is_may = is_may
+  copying_seeks may (frame.Treats v (ends (Leaving master item)) tasks ∷ k) u copies is_may = absurd (cc)
+  copying_seeks may (frame.Treats v (ends (Freeing number)) tasks ∷ k) u copies is_may = absurd (cc)
+  copying_seeks may (frame.Treats v (ends (Undoing number)) tasks ∷ k) u copies is_may = absurd (cc)
+  copying_seeks may (f ∷ k) u copies is_may = absurd (cc)
+
+  -- So it is behind the end of a Finalize.
+  pub confined_seeks :
+      (may : Bool) (k : List (Frame Value)) (u : ℕ) → (seeks_nothing k || comes_to_copy k) ≡ true → Seeks w.p.types w.shuns w.apart may u (frame.Confines ∷ k)
+      → Seeks w.p.types w.shuns w.apart may u k
+  confined_seeks may k u front seeks = by (or_cases (seeks_nothing k) (comes_to_copy k) front)
+    where
+      by : (seeks_nothing k ≡ true) ⊎ (comes_to_copy k ≡ true) → Seeks w.p.types w.shuns w.apart may u k
+      by (inl quiet) = anew_seeks may k u quiet
+      by (inr copies) = copying_seeks may k u copies (seeks copies)
 
   -- From the object that a value names what is left to do seeks nothing that is shunned.
   abbrev pub ValueSeeks : List Object → Value → List (Frame Value) → Type 0
@@ -198,6 +219,16 @@ module _ (w : World) where
   first_seeks heap k (Scalar n) vs each = tt
   first_seeks heap k (Part o place) vs each = tt
 
+  -- Or where no ghost is sought.
+  pub seen_seeks :
+      (heap : List Object) (k : List (Frame Value)) (vs : List Value) → IsInSight w.ghosts (first_or Null vs)
+      → ((may : Bool) (u : ℕ) → may ≡ true → Seeks w.p.types w.shuns w.apart may u k) → OperandsSeek heap Running k vs
+  seen_seeks heap k [] sees each = tt
+  seen_seeks heap k (Null ∷ vs) sees each = tt
+  seen_seeks heap k (Names o ∷ vs) sees each = λ x at. each (not (w.ghosts o)) x.cell.access (ap not sees)
+  seen_seeks heap k (Scalar n ∷ vs) sees each = tt
+  seen_seeks heap k (Part o place ∷ vs) sees each = tt
+
   -- So it is in any mode.
   pub any_mode : (heap : List Object) (m : Mode) (k : List (Frame Value)) (vs : List Value) → OperandsSeek heap Running k vs → OperandsSeek heap m k vs
   any_mode heap Running k vs h = h
@@ -212,6 +243,11 @@ module _ (w : World) where
   -- Without operands nothing is sought.
   none_seek : (heap : List Object) (m : Mode) (k : List (Frame Value)) → OperandsSeek heap m k []
   none_seek heap m k = any_mode heap m k [] tt
+
+  -- So it is by the newest operand.
+  pub newest_seek : (heap : List Object) (m : Mode) (k : List (Frame Value)) (vs : List Value) → ValueSeeks heap (first_or Null vs) k → OperandsSeek heap m k vs
+  newest_seek heap m k [] each = none_seek heap m k
+  newest_seek heap m k (v ∷ vs) each = value_seeks heap m k v vs each
 
   -- Nor is anything sought where what is left to do begins with no frame that looks for an object.
   operand_seeks : (heap : List Object) (m : Mode) (k : List (Frame Value)) (vs : List Value) → seeks_nothing k ≡ true → OperandsSeek heap m k vs

@@ -186,7 +186,7 @@ module _ (w : World) where
   ends_go (Raising e) actuals references s is on parts (inr inner) r = left_goes w s (frame.Returns actuals references) r inner s.mode
   ends_go Exiting actuals references s is on parts (inr inner) r = left_goes w s (frame.Returns actuals references) r inner s.mode
   ends_go Returning actuals references s is on parts (inr inner) r =
-      returned_goes w s (frame.Returns actuals references) r inner Running actuals references parts inner.references
+      returned_goes w s (frame.Returns actuals references) r inner Running actuals references refl parts inner.references
 
   -- The bodies go on as a jump comes to a frame.
   jump_goes :

@@ -147,6 +147,7 @@ module _ (types : List TypeForm) (shuns : ℕ → Bool) where
     seeks_weaker may more access (frame.Receives c ∷ k) weaker h = weaker h
     seeks_weaker may more access (frame.FreesIn t c ∷ k) weaker h = (weaker h.0, h.1, h.2)
     seeks_weaker may more access (frame.Treats v (ends (Assigning number)) tasks ∷ k) weaker h = weaker h
+    seeks_weaker may more access (frame.Confines ∷ k) weaker h = λ copies. weaker (h copies)
     seeks_weaker may more access (f ∷ k) weaker h = tt
 
 -- An access value that may be followed is of a type that is not shunned.

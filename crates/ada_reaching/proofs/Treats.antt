@@ -2,10 +2,10 @@
 -- 4.8, 3.3.1): the operations of such objects have bodies that shun them, too, and so has an Adjust of what gets its value from another record. And where such a
 -- body assigns to a record with controlled parts as a whole (5.2), no Finalize is called.
 
-use Rattle.std.proofs.Common.{◌≡◌, ℕ, Bool, true, false, not, if◌then◌else◌, List, [], ◌∷◌, length, map, Option, Some, None, refl, ap, subst, inl, inr}
+use Rattle.std.proofs.Common.{◌≡◌, ℕ, Bool, true, false, if◌then◌else◌, List, [], ◌∷◌, length, map, Option, Some, None, refl, subst, inl, inr, ◌⊎◌}
 use Rattle.std.specs.Prelude.{◌==◌}
 use Rattle.std.specs.List.{slice_get}
-use Rattle.std.proofs.lemmas.Bool.{and_parts}
+use Rattle.std.proofs.lemmas.Bool.{and_parts, or_left, or_right}
 use Rattle.ada_program.specs.declared.program.Exception.{Exception}
 use Rattle.ada_program.specs.declared.program.TypeDefinition.{TypeDefinition}
 use Rattle.ada_program.specs.declared.program.Operations.{Operations}
@@ -33,15 +33,15 @@ use Rattle.ada_meaning.specs.Frame.{Frame, Treatment, begins, ends}
 use Rattle.ada_meaning.specs.Frame as frame
 use Rattle.ada_meaning.specs.Heap.{Cell, Found, PartState, on_null, on_gone, on_other, finds}
 use Rattle.ada_meaning.specs.State.{Activation, counted}
-use Rattle.ada_meaning.specs.Step.{halts, moves, picks, at, computed, first_or, newest, numbered, operands, operands_of, assigns_next, record_tasks, treating, treated_on, picked_task, direction_of, beginning, with_operands, operation_next, part_reference, born_next, awaited_next, begun_next, undone, undo_next, ended_next, finalized_next, performed_next, treats_next}
+use Rattle.ada_meaning.specs.Step.{halts, picks, at, computed, first_or, newest, numbered, operands, operands_of, assigns_next, record_tasks, treating, treated_on, picked_task, direction_of, beginning, with_operands, operation_next, part_reference, born_next, awaited_next, begun_next, undone, undo_next, ended_next, finalized_next, performed_next, treats_next}
 use Rattle.ada_meaning.specs.Named.{Object, State, named, base, part_base, whole, look, refer, treated, born_part, finalized_part, bear, finalize, parted}
 use Rattle.ada_untouched.specs.Untouched.{IsInSight}
 use Rattle.ada_reaching.specs.Apart.{AreBegunIn, AreUndoneIn, IsBegunIn, IsLeftIn, IsLeftOf, picked, called, whole_in, picked_in, called_in}
 use Rattle.ada_reaching.specs.Forms.{body_shuns, may_replace}
-use Rattle.ada_reaching.specs.Reaching.{AssignsApart, AwaitsApart, EndsApart, Seeks, IsAdjusting, IsElsewhere, is_copying, IsInFront, StartsApart, TreatsApart, begins_anew, is_leaving, may_treat, seeks_nothing}
+use Rattle.ada_reaching.specs.Reaching.{AssignsApart, AwaitsApart, EndsApart, Seeks, IsAdjusting, IsElsewhere, is_copying, IsInFront, StartsApart, TreatsApart, begins_anew, is_leaving, may_treat, seeks_nothing, comes_to_copy, WaitsToCopy}
 use Rattle.ada_reaching.specs.Law.{AreApart, AllGoOn}
 use Rattle.ada_reaching.proofs.Begins.{beginning_goes}
-use Rattle.ada_reaching.proofs.Going.{World, Runs, Left, On, Goes, GoesRunning, OperandsSeek, ValueSeeks, any_mode, anew_quiet, anew_stands, anew_from, changed_run, none_jumps, operands_run, reaches, stays, runs_on}
+use Rattle.ada_reaching.proofs.Going.{World, Runs, Left, On, Goes, GoesRunning, ValueSeeks, any_mode, anew_quiet, anew_stands, anew_from, changed_run, none_jumps, operands_run, reaches, stays, runs_on, seen_seeks}
 use Rattle.ada_reaching.proofs.Paths.{in_sight}
 
 -- What refers to a part of an object that is found refers to no ghost, where the object is none.
@@ -93,7 +93,8 @@ module _ (w : World) where
   operation_goes :
       (procedure : ℕ) (found : Option BodyForm) (reference : Value) (k : List (Frame Value)) (e : Event Value) (s : State)
       → slice_get w.p.bodies procedure ≡ found → ((b : BodyForm) → found ≡ Some b → body_shuns w.p.types w.shuns w.apart b ≡ true)
-      → IsElsewhere w.ghosts w.unnamed reference → Runs w s → Left w k → begins_anew k ≡ true
+      → IsElsewhere w.ghosts w.unnamed reference → Runs w s → Left w k
+      → (begins_anew k ≡ true) ⊎ WaitsToCopy w.ghosts (frame.Returns [] []) k s.activations
       → AllGoOn (On w) (operation_next named procedure found reference k e s)
   operation_goes procedure None reference k e s is shun other r h anew = tt
   operation_goes procedure (Some b) reference k e s is shun other r h anew =
@@ -342,7 +343,24 @@ module _ (w : World) where
         operation_goes procedure (slice_get w.p.bodies procedure) (part_reference named v part state) (frame.Awaits v by done of part tasks ∷ s.control) Quiet s
         refl
         (λ b is. are_apart.bodies procedure b (each procedure refl) is)
-        (part_elsewhere w.ghosts w.unnamed s.heap v (record { component = state.first; part = part }) cell there sight) r ((sight, left), anew, h) refl
+        (part_elsewhere w.ghosts w.unnamed s.heap v (record { component = state.first; part = part }) cell there sight) r ((sight, left), anew, h) (inl refl)
+
+    -- Where nothing is sought next, no record is copied.
+    none_copied : (k : List (Frame Value)) → seeks_nothing k ≡ true → begins_anew (frame.Confines ∷ k) ≡ true
+    none_copied k quiet = by (comes_to_copy k) refl
+      where
+        by : (copies : Bool) → comes_to_copy k ≡ copies → begins_anew (frame.Confines ∷ k) ≡ true
+        by false none = rw none refl
+        by true copies = absurd (copies_seeks k copies quiet)
+          where
+            copies_seeks : (j : List (Frame Value)) → comes_to_copy j ≡ true → seeks_nothing j ≡ true → ⊥
+            copies_seeks [] copies' quiet' = cc copies'
+            copies_seeks (frame.Copies c t ∷ j) copies' quiet' = cc quiet'
+            copies_seeks (frame.Treats v (ends (Assigning number)) tasks ∷ j) copies' quiet' = cc quiet'
+            copies_seeks (frame.Treats v (ends (Leaving master item)) tasks ∷ j) copies' quiet' = cc copies'
+            copies_seeks (frame.Treats v (ends (Freeing number)) tasks ∷ j) copies' quiet' = cc copies'
+            copies_seeks (frame.Treats v (ends (Undoing number)) tasks ∷ j) copies' quiet' = cc copies'
+            copies_seeks (f ∷ j) copies' quiet' = cc copies'
 
     -- The bodies go on as the Finalize of a part is called, or nothing is, where its type overrides none (7.6.1).
     ended_goes :
@@ -352,7 +370,7 @@ module _ (w : World) where
     ended_goes v part state k None e s each other running r h quiet = runs_on w (at k s) running r h quiet
     ended_goes v part state k (Some procedure) e s each other running r h quiet =
         operation_goes procedure (slice_get w.p.bodies procedure) (part_reference named v part state) (frame.Confines ∷ k) e s refl
-        (λ b is. are_apart.bodies procedure b (each procedure refl) is) other r (tt, quiet, h) refl
+        (λ b is. are_apart.bodies procedure b (each procedure refl) is) other r (tt, or_left (seeks_nothing k) (comes_to_copy k) quiet, h) (inl (none_copied k quiet))
 
     -- The bodies go on as the value of a part is finalized, if it has one.
     valued_goes :
@@ -392,13 +410,13 @@ module _ (w : World) where
         (subst (λ (ts : List TypeDefinition). IsLeftIn ts PartsFirst left.record_type (performs of part ∷ tasks)) are_apart.own left.left)
         (adjust_called by (operations_of tds of) number adjusting is)
 
-    -- Nothing is called where one ends to which another one is assigned.
+    -- Where one ends to which another one is assigned, the Finalize that is called shuns the types.
     assigned_calls :
-        (of part : ℕ) (tasks : List Task) → AssignsApart w.apart WholeFirst (performs of part ∷ tasks)
-        → procedure_number (operations_of tds of).finalize ≡ None
-    assigned_calls of part tasks left =
-        are_apart.operations.assigns_quietly left.record_type of part tasks left.may
-        (subst (λ (ts : List TypeDefinition). IsLeftIn ts WholeFirst left.record_type (performs of part ∷ tasks)) are_apart.own left.left)
+        (of part number : ℕ) (tasks : List Task) → AssignsApart w.apart WholeFirst (performs of part ∷ tasks)
+        → procedure_number (operations_of tds of).finalize ≡ Some number → w.apart.calls number ≡ true
+    assigned_calls of part number tasks left is =
+        are_apart.operations.overwrites left.record_type of part number tasks left.may
+        (subst (λ (ts : List TypeDefinition). IsLeftIn ts WholeFirst left.record_type (performs of part ∷ tasks)) are_apart.own left.left) is
 
     -- What is left behind it is so.
     assigned_called :
@@ -453,16 +471,6 @@ module _ (w : World) where
   assigned_seeks may u v number [] k copies is_may = copy_seeks may u k copies is_may
   assigned_seeks may u v number (task ∷ tasks) k copies is_may = is_may
 
-  -- From the newest operand what is sought is no ghost.
-  seen_seeks :
-      (heap : List Object) (k : List (Frame Value)) (vs : List Value) → IsInSight w.ghosts (first_or Null vs)
-      → ((may : Bool) (u : ℕ) → may ≡ true → Seeks w.p.types w.shuns w.apart may u k) → OperandsSeek w heap Running k vs
-  seen_seeks heap k [] sees each = tt
-  seen_seeks heap k (Null ∷ vs) sees each = tt
-  seen_seeks heap k (Names o ∷ vs) sees each = λ x at. each (not (w.ghosts o)) x.cell.access (ap not sees)
-  seen_seeks heap k (Scalar n ∷ vs) sees each = tt
-  seen_seeks heap k (Part o place ∷ vs) sees each = tt
-
   -- The bodies go on as this is left of the finalization of a record that is assigned to, in front of the copy, which looks at no ghost.
   pub assigned_on :
       (v : Value) (number : ℕ) (tasks : List Task) (s : State) → s.mode ≡ Running → Runs w s → Left w s.control → is_copying s.control ≡ true
@@ -473,41 +481,69 @@ module _ (w : World) where
       reaches w (treated_on named v (ends (Assigning number)) tasks s) r (treating_left v (ends (Assigning number)) tasks s.control sight left h copies)
       (none_jumps s.mode k running)
       (any_mode w s.heap s.mode k (operands s)
-      (seen_seeks s.heap k (operands s) sees (λ may u is_may. assigned_seeks may u v number tasks s.control copies is_may)))
+      (seen_seeks w s.heap k (operands s) sees (λ may u is_may. assigned_seeks may u v number tasks s.control copies is_may)))
 
-  -- So they do as the value of a part of it is finalized, if it has one.
-  assigned_valued :
-      (alive : Bool) (v : Value) (number part : ℕ) (tasks : List Task) (e : Event Value) (s : State) → s.mode ≡ Running → Runs w s → Left w s.control
-      → is_copying s.control ≡ true → IsInSight w.ghosts v → AssignsApart w.apart WholeFirst tasks → IsInSight w.ghosts (newest named s)
-      → AllGoOn (On w) (if alive then moves e (treated_on named v (ends (Assigning number)) tasks (record s { heap = finalize s.heap v part }))
-      else halts (Erroneous FinalizesTwice))
-  assigned_valued false v number part tasks e s running r h copies sight left sees = tt
-  assigned_valued true v number part tasks e s running r h copies sight left sees =
-      assigned_on v number tasks (record s { heap = finalize s.heap v part }) running
-      (changed_run w (treated finalized_part part) v s.activations s.masters s.heap sight r) h copies sight left sees
-
-  -- So they do, if there is that part of the object, and nothing is called.
-  assigned_finalized :
-      (v : Value) (number of part : ℕ) (tasks : List Task) (operation : Option ℕ) (found : Option PartState) (s : State) → operation ≡ None
-      → s.mode ≡ Running → Runs w s → Left w s.control → is_copying s.control ≡ true → IsInSight w.ghosts v → AssignsApart w.apart WholeFirst tasks
-      → IsInSight w.ghosts (newest named s) → AllGoOn (On w) (finalized_next named w.p.bodies v (Assigning number) of part tasks operation found s)
-  assigned_finalized v number of part tasks operation None s none running r h copies sight left sees = tt
-  assigned_finalized v number of part tasks None (Some state) s none running r h copies sight left sees =
-      assigned_valued state.alive v number part tasks (Finalized v part state.turn of state.number (Assigning number)) s running r h copies sight left sees
-  assigned_finalized v number of part tasks (Some procedure) (Some state) s none running r h copies sight left sees = absurd (cc)
+  -- A record is copied behind what is left of that.
+  copies_behind :
+      (v : Value) (number : ℕ) (tasks : List Task) (k : List (Frame Value)) → is_copying k ≡ true → comes_to_copy (treating v (ends (Assigning number)) tasks k) ≡ true
+  copies_behind v number [] [] copies = absurd (cc)
+  copies_behind v number [] (frame.Copies c t ∷ k) copies = refl
+  copies_behind v number [] (f ∷ k) copies = absurd (cc)
+  copies_behind v number (task ∷ tasks) k copies = refl
 
   module _ (tds : List TypeDefinition) (are_apart : AreApart w.p tds w.shuns w.apart) where
+    -- So they do as the Finalize of a part of it is called, or nothing is: behind that the copy looks at no ghost.
+    assigned_ended :
+        (v : Value) (number part : ℕ) (state : PartState) (tasks : List Task) (operation : Option ℕ) (e : Event Value) (s : State)
+        → ((procedure : ℕ) → operation ≡ Some procedure → w.apart.calls procedure ≡ true) → IsElsewhere w.ghosts w.unnamed (part_reference named v part state)
+        → s.mode ≡ Running → Runs w s → Left w s.control → is_copying s.control ≡ true → IsInSight w.ghosts v → AssignsApart w.apart WholeFirst tasks
+        → IsInSight w.ghosts (newest named s)
+        → AllGoOn (On w) (ended_next named w.p.bodies v part state (treating v (ends (Assigning number)) tasks s.control) operation e s)
+    assigned_ended v number part state tasks None e s each other running r h copies sight left sees =
+        assigned_on v number tasks s running r h copies sight left sees
+    assigned_ended v number part state tasks (Some procedure) e s each other running r h copies sight left sees =
+        let k = treating v (ends (Assigning number)) tasks s.control in
+        let next = copies_behind v number tasks s.control copies in
+        operation_goes procedure (slice_get w.p.bodies procedure) (part_reference named v part state) (frame.Confines ∷ k) e s refl
+        (λ b is. are_apart.bodies procedure b (each procedure refl) is) other r
+        (tt, or_right (seeks_nothing k) (comes_to_copy k) next, treating_left v (ends (Assigning number)) tasks s.control sight left h copies)
+        (inr (record { ends_operation = refl; rest = k; is = refl; copies = next; sees = sees }))
+
+    -- So they do as the value of a part of it is finalized, if it has one.
+    assigned_valued :
+        (alive : Bool) (v : Value) (number part : ℕ) (state : PartState) (tasks : List Task) (operation : Option ℕ) (e : Event Value) (s : State)
+        → ((procedure : ℕ) → operation ≡ Some procedure → w.apart.calls procedure ≡ true) → IsElsewhere w.ghosts w.unnamed (part_reference named v part state)
+        → s.mode ≡ Running → Runs w s → Left w s.control
+        → is_copying s.control ≡ true → IsInSight w.ghosts v → AssignsApart w.apart WholeFirst tasks → IsInSight w.ghosts (newest named s)
+        → AllGoOn (On w) (if alive then ended_next named w.p.bodies v part state (treating v (ends (Assigning number)) tasks s.control) operation e
+        (record s { heap = finalize s.heap v part }) else halts (Erroneous FinalizesTwice))
+    assigned_valued false v number part state tasks operation e s each other running r h copies sight left sees = tt
+    assigned_valued true v number part state tasks operation e s each other running r h copies sight left sees =
+        assigned_ended v number part state tasks operation e (record s { heap = finalize s.heap v part }) each other running
+        (changed_run w (treated finalized_part part) v s.activations s.masters s.heap sight r) h copies sight left sees
+
+    -- So they do, if there is that part of the object.
+    assigned_finalized :
+        (v : Value) (number of part : ℕ) (tasks : List Task) (operation : Option ℕ) (found : Option PartState) (cell : Cell Value) (s : State)
+        → look s.heap v ≡ finds cell → ((procedure : ℕ) → operation ≡ Some procedure → w.apart.calls procedure ≡ true)
+        → s.mode ≡ Running → Runs w s → Left w s.control → is_copying s.control ≡ true → IsInSight w.ghosts v → AssignsApart w.apart WholeFirst tasks
+        → IsInSight w.ghosts (newest named s) → AllGoOn (On w) (finalized_next named w.p.bodies v (Assigning number) of part tasks operation found s)
+    assigned_finalized v number of part tasks operation None cell s there each running r h copies sight left sees = tt
+    assigned_finalized v number of part tasks operation (Some state) cell s there each running r h copies sight left sees =
+        assigned_valued state.alive v number part state tasks operation (Finalized v part state.turn of state.number (Assigning number)) s each
+        (part_elsewhere w.ghosts w.unnamed s.heap v (record { component = state.first; part = part }) cell there sight) running r h copies sight left sees
+
     -- So they do, by what is found of the object.
     assigned_performed :
-        (v : Value) (number of part : ℕ) (tasks : List Task) (found : Found (Cell Value)) (s : State) → s.mode ≡ Running → Runs w s → Left w s.control
-        → is_copying s.control ≡ true → IsInSight w.ghosts v → AssignsApart w.apart WholeFirst (performs of part ∷ tasks)
+        (v : Value) (number of part : ℕ) (tasks : List Task) (found : Found (Cell Value)) (s : State) → look s.heap v ≡ found → s.mode ≡ Running → Runs w s
+        → Left w s.control → is_copying s.control ≡ true → IsInSight w.ghosts v → AssignsApart w.apart WholeFirst (performs of part ∷ tasks)
         → IsInSight w.ghosts (newest named s) → AllGoOn (On w) (performed_next named tds w.p.bodies v (ends (Assigning number)) of part tasks found s)
-    assigned_performed v number of part tasks on_null s running r h copies sight left sees = tt
-    assigned_performed v number of part tasks on_gone s running r h copies sight left sees = tt
-    assigned_performed v number of part tasks on_other s running r h copies sight left sees = tt
-    assigned_performed v number of part tasks (finds cell) s running r h copies sight left sees =
-        assigned_finalized v number of part tasks (procedure_number (operations_of tds of).finalize) (slice_get cell.parts part) s
-        (assigned_calls tds are_apart of part tasks left) running r h copies sight
+    assigned_performed v number of part tasks on_null s is running r h copies sight left sees = tt
+    assigned_performed v number of part tasks on_gone s is running r h copies sight left sees = tt
+    assigned_performed v number of part tasks on_other s is running r h copies sight left sees = tt
+    assigned_performed v number of part tasks (finds cell) s is running r h copies sight left sees =
+        assigned_finalized v number of part tasks (procedure_number (operations_of tds of).finalize) (slice_get cell.parts part) cell s is
+        (λ procedure said. assigned_calls tds are_apart of part procedure tasks left said) running r h copies sight
         (assigned_called tds are_apart WholeFirst of part tasks left) sees
 
     -- So they do as one of so many components is picked.
@@ -531,7 +567,7 @@ module _ (w : World) where
     assigned_goes v number (treats components ∷ tasks) s sight left sees running r h copies =
         assigned_component (length components == 0) v number components tasks (length components) s running r h copies sight left sees
     assigned_goes v number (performs of part ∷ tasks) s sight left sees running r h copies =
-        assigned_performed v number of part tasks (look s.heap v) s running r h copies sight left sees
+        assigned_performed v number of part tasks (look s.heap v) s refl running r h copies sight left sees
 
     -- The bodies go on as an object is treated: they initialize one that they may allocate or declare, or finalize one that they may free or have declared, or
     -- finalize or adjust a record to which they assign as a whole.

@@ -1,9 +1,9 @@
 -- What bodies may do that shun some access types: which procedures they may call, of which access types they may free objects, whose finalization (7.6.1) calls
 -- such procedures alone, and of which they may allocate objects, whose initialization (7.6) does, and their finalization where an exception comes out of that.
--- So it is with the record objects that they declare. And to records of which types they may assign as wholes though these have controlled parts (5.2): no
--- Finalize is called there; and which may get their values from others: their adjustment (7.6) calls such procedures alone.
+-- So it is with the record objects that they declare. And to records of which types they may assign as wholes though these have controlled parts (5.2), whose
+-- finalization calls such procedures alone; and which may get their values from others: their adjustment (7.6) calls such procedures alone.
 
-use Rattle.std.specs.Prelude.{◌≡◌, ℕ, Bool, true, List, [], ◌∷◌, Some, None}
+use Rattle.std.specs.Prelude.{◌≡◌, ℕ, Bool, true, List, [], ◌∷◌, Some}
 use Rattle.ada_parts.specs.declared.tasks.Direction.{Direction}
 use Rattle.ada_parts.specs.declared.tasks.Direction.TheVariants.{PartsFirst, WholeFirst}
 use Rattle.ada_parts.specs.Part.{Part}
@@ -56,8 +56,8 @@ AreUndoneIn definitions access (performs of part ∷ tasks) = IsBegunIn definiti
 AreUndoneIn definitions access (treats components ∷ tasks) = ⊥
 
 -- Where the finalization of an object that they may free calls a Finalize, that is one of these procedures; so it is with an Initialize that the initialization
--- of one calls that they may allocate, with a Finalize of what has begun of that, and with an Adjust that is called for a part of a record that may get its value
--- from another one. Of a part of a record with such parts no Finalize is overridden, where they may assign to that as a whole.
+-- of one calls that they may allocate, with a Finalize of what has begun of that, with one of a part of a record to which they may assign as a whole, and with an
+-- Adjust that is called for a part of a record that may get its value from another one.
 pub record CallsApart (definitions : List TypeDefinition) (apart : Apart) : Type 0 where
   pub finalizes :
       (access of part number : ℕ) (tasks : List Task) → apart.ends access ≡ true → IsLeftOf definitions WholeFirst access (performs of part ∷ tasks)
@@ -68,9 +68,10 @@ pub record CallsApart (definitions : List TypeDefinition) (apart : Apart) : Type
   pub undoes :
       (access of part number : ℕ) → apart.starts access ≡ true → IsBegunIn definitions access of part
       → procedure_number (operations_of definitions of).finalize ≡ Some number → apart.calls number ≡ true
-  pub assigns_quietly :
-      (record_type of part : ℕ) (tasks : List Task) → apart.assigns record_type ≡ true
-      → IsLeftIn definitions WholeFirst record_type (performs of part ∷ tasks) → procedure_number (operations_of definitions of).finalize ≡ None
+  pub overwrites :
+      (record_type of part number : ℕ) (tasks : List Task) → apart.assigns record_type ≡ true
+      → IsLeftIn definitions WholeFirst record_type (performs of part ∷ tasks) → procedure_number (operations_of definitions of).finalize ≡ Some number
+      → apart.calls number ≡ true
   pub adjusts :
       (record_type of part number : ℕ) (tasks : List Task) → apart.copies record_type ≡ true
       → IsLeftIn definitions PartsFirst record_type (performs of part ∷ tasks)

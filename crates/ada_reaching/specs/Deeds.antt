@@ -21,7 +21,7 @@ use Rattle.ada_reaching.specs.Law.{AreApart, IsWithin, GoesOn, AllGoOn, none_hid
 use Rattle.ada_reaching.specs.Reaching.{IsReaching}
 
 -- The bodies of these procedures shun no type, but are of the shape of those that do, and call these procedures alone: they assign to records with controlled
--- parts (7.6) as wholes of some types alone, of which no Finalize is called, and whose adjustment calls these procedures alone, create no collection and no
+-- parts (7.6) as wholes of some types alone, whose finalization and adjustment call these procedures alone, create no collection and no
 -- pool, and free objects of these access types alone, whose finalization calls these procedures alone. Objects with controlled parts they allocate of some
 -- access types alone, and declare of some types alone, by default, whose initialization calls these procedures alone.
 abbrev pub AreShaped : ProgramForm → List TypeDefinition → Apart → Type 0

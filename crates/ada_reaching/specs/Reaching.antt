@@ -2,7 +2,7 @@
 -- value of the bodies names. What is left of the bodies, of the finalizations of what they free, and of the initializations of what they allocate, shuns the
 -- types, and refers to no ghost. So does what is left of the record objects that they declare, which their own masters own.
 
-use Rattle.std.specs.Prelude.{◌≡◌, ◌⊎◌, ◌≤◌, ◌<◌, ℕ, Bool, true, false, not, ◌&&◌, List, [], ◌∷◌, ◌++◌, Option, Some}
+use Rattle.std.specs.Prelude.{◌≡◌, ◌⊎◌, ◌≤◌, ◌<◌, ℕ, Bool, true, false, not, ◌&&◌, ◌||◌, List, [], ◌∷◌, ◌++◌, Option, Some}
 use Rattle.std.specs.List.{list_all, slice_get}
 use Rattle.ada_program.specs.declared.program.VariableKind.TheVariants as variable
 use Rattle.ada_program.specs.ProgramForm.{TypeForm, VariableForm, BodyForm, ProgramForm, seen_in}
@@ -22,7 +22,7 @@ use Rattle.ada_meaning.specs.declared.event.Cause.TheVariants.{Assigning}
 use Rattle.ada_meaning.specs.Frame.{Frame, Treatment, begins, ends, is_return}
 use Rattle.ada_meaning.specs.Frame as frame
 use Rattle.ada_meaning.specs.State.{Activation, Owned, declared, collection, record_object, storage_pool, Item, Master, height}
-use Rattle.ada_meaning.specs.Step.{operands_of, older, places_of, procedure_of}
+use Rattle.ada_meaning.specs.Step.{first_or, operands_of, older, places_of, procedure_of}
 use Rattle.ada_meaning.specs.Named.{Object, State, object_at}
 use Rattle.ada_untouched.specs.Untouched.{IsInSight}
 use Rattle.ada_reaching.specs.Apart.{Apart, AreBegunIn, AreUndoneIn, IsBegunIn, IsLeftIn, IsLeftOf}
@@ -87,9 +87,17 @@ is_leaving (frame.Ends v ∷ k) = is_leaving k
 is_leaving (frame.GivesBack v cause pool ∷ k) = is_leaving k
 is_leaving (f ∷ k) = false
 
--- What is left to do begins with no frame that looks for an object.
+-- A record is copied next, or the one is finalized to which it is assigned (5.2).
+abbrev pub comes_to_copy : List (Frame Value) → Bool
+comes_to_copy [] = false
+comes_to_copy (frame.Copies c t ∷ k) = true
+comes_to_copy (frame.Treats v (ends (Assigning number)) tasks ∷ k) = true
+comes_to_copy (f ∷ k) = false
+
+-- What is left to do begins with no frame that looks for an object, nor with the end of a Finalize behind which a record is copied.
 abbrev pub seeks_nothing : List (Frame Value) → Bool
 seeks_nothing [] = true
+seeks_nothing (frame.Confines ∷ k) = not (comes_to_copy k)
 seeks_nothing (f ∷ k) = not (is_seeking f)
 
 -- Nor is a master left.
@@ -102,15 +110,15 @@ is_copying [] = false
 is_copying (frame.Copies c t ∷ k) = true
 is_copying (f ∷ k) = false
 
--- A frame that looks for an object waits behind one alone that follows selectors, or, where it copies a record, behind one that finalizes that to which it is
--- assigned; and a master is left behind the end of what has been finalized in it.
+-- A frame that looks for an object waits behind one alone that follows selectors, or, where it copies a record, behind what finalizes that to which it is
+-- assigned, and the end of a Finalize that this calls; and a master is left behind the end of what has been finalized in it.
 abbrev pub IsInFront : Frame Value → (behind : List (Frame Value)) → Type 0
 IsInFront (frame.Follows cs) k = is_leaving k ≡ false
 IsInFront (frame.Treats v (ends (Assigning number)) tasks) k = is_copying k ≡ true
 IsInFront (frame.Treats v (ends cause) tasks) k = seeks_nothing k ≡ true
 IsInFront (frame.Ends v) k = seeks_nothing k ≡ true
 IsInFront (frame.GivesBack v cause pool) k = seeks_nothing k ≡ true
-IsInFront frame.Confines k = seeks_nothing k ≡ true
+IsInFront frame.Confines k = (seeks_nothing k || comes_to_copy k) ≡ true
 IsInFront f k = begins_anew k ≡ true
 
 -- A jump comes to no master that is being left: it leaves one itself (11.4, 5.7, 6.5).
@@ -240,13 +248,21 @@ references_at f = []
 abbrev pub IsLast : (behind : List (Frame Value)) → Frame Value → List (Frame Value) → Type 0
 IsLast behind f k = (f ∷ k ≡ frame.Returns [] [] ∷ behind)
 
+-- A record is copied behind a Finalize that comes to its end (5.2, 7.6): the newest operand that waits, which names the one that is copied, names no ghost.
+pub record WaitsToCopy (ghosts : Id → Bool) (f : Frame Value) (k : List (Frame Value)) (suspended : List (Activation Value)) : Type 0 where
+  pub ends_operation : f ≡ frame.Returns [] []
+  pub rest : List (Frame Value)
+  pub is : k ≡ frame.Confines ∷ rest
+  pub copies : comes_to_copy rest ≡ true
+  pub sees : IsInSight ghosts (first_or Null (operands_of suspended))
+
 -- The call of an inner one ends: what its caller's variables and operands hold, and the references to components, lead elsewhere, and what is left of the
--- caller is so.
+-- caller is so, and begins anew, or copies a record.
 pub record IsInner (ghosts unnamed : Id → Bool) (f : Frame Value) (k : List (Frame Value)) (suspended : List (Activation Value)) (left : Type 0) : Type 0 where
   pub references : AreElsewhere ghosts unnamed (references_at f)
   pub places : AreElsewhere ghosts unnamed (places_of suspended)
   pub operands : AreElsewhere ghosts unnamed (operands_of suspended)
-  pub anew : begins_anew k ≡ true
+  pub anew : (begins_anew k ≡ true) ⊎ WaitsToCopy ghosts f k suspended
   pub others : left
 
 -- What holds where the call of a body ends (6.5), and at each other frame.
@@ -284,6 +300,7 @@ Seeks types shuns apart may access (frame.Targets c right ∷ k) = (may ≡ true
 Seeks types shuns apart may access (frame.TargetsRecord c t items ∷ k) = (may ≡ true)
 Seeks types shuns apart may access (frame.Copies c t ∷ k) = (may ≡ true)
 Seeks types shuns apart may access (frame.Treats v (ends (Assigning number)) tasks ∷ k) = (may ≡ true)
+Seeks types shuns apart may access (frame.Confines ∷ k) = (comes_to_copy k ≡ true → may ≡ true)
 Seeks types shuns apart may access (frame.Receives c ∷ k) = (may ≡ true)
 Seeks types shuns apart may access (frame.FreesIn t c ∷ k) =
     (may ≡ true)

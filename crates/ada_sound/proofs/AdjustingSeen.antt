@@ -57,6 +57,7 @@ begins_on types behind among (frame.Treats v (frame.ends cause) tasks ∷ k) ms 
 begins_on types behind among (frame.Awaits v by done of part tasks ∷ k) ms q = refl
 begins_on types behind among (frame.Copies first t ∷ k) ms q = refl
 begins_on types behind among (frame.StoresRecord v first count ∷ k) ms q = refl
+begins_on types behind among (frame.Confines ∷ k) ms q = refl
 begins_on types behind among (f ∷ k) ms q = absurd q
 
 pub frugal_alone : (types : List TypeForm) (behind : Control) (among : List Value) (mode : Mode) (k : Control) (ms : List Master) → Frugal (simple_allowance types) behind among mode k ms → calls_or_copies k ≡ false

@@ -249,7 +249,7 @@ module _
   frugal_on =
       frugal_steps known.program judged.owns tds bodies (simple_allowance p.types) (bare_by program) (records_bare_by program) (record_inside program, object_inside program) (λ number b there told. absurd (cc told)) (λ objects. absurd (cc objects)) f.behind [] f.lower f.t f.frugal
       (λ actuals references k is. absurd (let first = firsts.0 in cc (rw is at first))) (λ runs. treats_none (simple_allowance p.types) refl refl f.behind [] f.t.mode f.t.control f.frugal.upper f.frugal.frugally) f.typed
-      bare_types (λ runs. freely) (λ treats_parts runs first. absurd (cc treats_parts)) (λ objects. absurd (cc objects)) (λ objects runs. absurd (cc objects))
+      bare_types (λ runs. freely) (λ treats_parts runs first. absurd (cc treats_parts)) (λ objects. absurd (cc objects)) (λ objects runs. absurd (cc objects)) (λ treats_parts runs. absurd (cc treats_parts))
 
   typed_on : Each (typed.TypedIn known.program) (next tds bodies f.t)
   typed_on = judged.stays f.t f.typed alone_there none_crosses (none_ends (simple_allowance p.types) refl refl f.behind [] f.t.mode f.t.control f.frugal.upper f.frugal.frugally)

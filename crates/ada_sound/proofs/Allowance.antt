@@ -1,5 +1,5 @@
 -- Frugal bodies (7.6, 4.8, 13.11.2) that free no objects with controlled parts, or may do so, and that create none and declare no record objects, or may do so,
--- as what is proved of them tells them apart. The body of an operation itself may assign to inert records as wholes (5.2).
+-- as what is proved of them tells them apart. The body of an operation itself may assign to records with such parts as wholes (5.2).
 
 use Rattle.std.proofs.Common.{◌≡◌, ℕ, Bool, true, false, ◌&&◌, ◌||◌, List, Option, refl, sym, ◌∙◌, [], ◌∷◌, inl, inr}
 use Rattle.std.specs.Prelude.{not, is_some, if◌then◌else◌, Some, None}
@@ -30,17 +30,17 @@ pub record Allowance : Type 0 where
 abbrev pub is_unadjusted : Allowance → (record_type : ℕ) → Bool
 is_unadjusted allowance t = is_known_calm allowance.unadjusted (finalization_of allowance.types t)
 
--- or as a value ends,
+-- or as a value ends.
 abbrev pub is_unfinalized : Allowance → (record_type : ℕ) → Bool
 is_unfinalized allowance t = is_known_calm allowance.unfinalized (finalization_of allowance.types t)
 
--- or that it is inert: neither is (7.6).
+-- Nothing is called for it, in neither way.
 abbrev pub is_inert : Allowance → (record_type : ℕ) → Bool
 is_inert allowance t = is_unfinalized allowance t && is_unadjusted allowance t
 
--- The body of an operation itself may assign to a record of such a type as a whole (5.2).
+-- The body of an operation itself may assign to a record as a whole (5.2) where no Adjust tracks, or for which none is called.
 abbrev pub may_assign : Allowance → (own : Bool) → (record_type : ℕ) → Bool
-may_assign allowance own t = allowance.treats_parts && own && is_inert allowance t
+may_assign allowance own t = allowance.treats_parts && own && ((allowance.objects && allowance.untracked) || is_unadjusted allowance t)
 
 -- Such a body may free objects of an access type (13.11.2): they have no controlled parts, or it may treat those that have some.
 abbrev pub may_treat : Allowance → (access : ℕ) → Bool
@@ -188,15 +188,16 @@ module _ (p : ProgramForm) (own : Bool) where
       let both = and_parts (is_frugal_declaration judged d) (are_frugal_declarations judged ds) is in
       rw (declaration_thrifty d both.0, declarations_thrifty ds both.1) refl
 
-  -- A record that is assigned has no controlled parts, or is inert, and assigned by the body of an operation itself.
+  -- A record that is assigned has no controlled parts, or no Adjust is called for it, and it is assigned by the body of an operation itself.
   assigned_thrifty :
       (target : RecordPathForm) (items : List ItemForm) (parted : Bool)
       → (if parted then assigns_at_hand judged target else list_all (is_bare_item p.types) items) ≡ true
       → (not parted || may_assign (allowance_of p) own target.record_type) ≡ true
   assigned_thrifty target items false is = refl
   assigned_thrifty target items true is =
-      let three = and_parts (own && is_inert (allowance_of p) target.record_type && not (record_path_raises target)) _ is in
-      let two = and_parts (own && is_inert (allowance_of p) target.record_type) (not (record_path_raises target)) three.0 in
+      let copied = leave_access p.types || is_unadjusted (allowance_of p) target.record_type in
+      let three = and_parts (own && copied && not (record_path_raises target)) _ is in
+      let two = and_parts (own && copied) (not (record_path_raises target)) three.0 in
       two.0
 
   mutual
@@ -265,7 +266,7 @@ module _ (allowance : Allowance) where
   assigned_more t true may same is = refl
   assigned_more t false may same is = absurd (none allowance.treats_parts (sym same ∙ is))
     where
-      none : (treats_parts : Bool) → (treats_parts && false && is_inert allowance t) ≡ true → ⊥
+      none : (treats_parts : Bool) → (treats_parts && false && ((allowance.objects && allowance.untracked) || is_unadjusted allowance t)) ≡ true → ⊥
       none true is' = cc is'
       none false is' = cc is'
 

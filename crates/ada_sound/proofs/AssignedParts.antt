@@ -172,7 +172,7 @@ module _ (program : Program) (well : IsWellFormed (program_form program)) where
       (ap (λ (shapes : List Shape). slice_get (components_of shapes of part) i) (sym (shapes_shown types forms refl)) ∙ at)
 
   -- What a procedure does that overrides the operation of such a record, the operation does for the parts of a record of the type.
-  done_inside :
+  pub done_inside :
       (d : Deed) (operation : Operation) (t of number : ℕ) → Inside forms t of → procedure_number (overriding operation (operations_of types of)) ≡ Some number
       → Does p d (callee.Procedure (record { 0 = number })) → Does p d (callee.Parts operation (record { 0 = t }))
   done_inside d operation t of number inside overrides done =

@@ -131,8 +131,10 @@ module _ (p : ProgramForm) (shuns : ℕ → Bool) (apart : Apart) (ghosts : Id �
     operated_calm : (among : List Value) (k : Control) (ms : List Master) → IsCalm (behind_call k) → FrugalOperated frugal back among k ms → ⊥
     operated_calm among [] ms calm_there q = q
     operated_calm among (frame.Confines ∷ k) ms calm_there (vs, is, inl (ending, q)) = back_waits (frugal_calm frugal back vs Running k ms calm_there (inl q))
-    operated_calm among (frame.Confines ∷ k) ms calm_there (vs, is, inr (ending, q)) =
+    operated_calm among (frame.Confines ∷ k) ms calm_there (vs, is, inr (inl (ending, q))) =
         back_waits (frugal_calm frugal back vs Running k ms calm_there (inr (inl (may_leave k, q))))
+    operated_calm among (frame.Confines ∷ k) ms calm_there (vs, is, inr (inr (ending, q))) =
+        back_waits (frugal_calm frugal back vs Running k ms calm_there (inr (inr (tt, q))))
     operated_calm among (frame.Awaits v by done of part tasks ∷ k) ms calm_there (vs, is, beginning, q) =
         back_waits (frugal_calm frugal back vs Running k ms calm_there (inl q))
     operated_calm among (f ∷ k) ms calm_there q = q
@@ -191,26 +193,28 @@ module _ (p : ProgramForm) (shuns : ℕ → Bool) (apart : Apart) (ghosts : Id �
           → FrugalOperated frugal back among k ms → Left procedure k own suspended → back ≡ behind
       operated_same among [] ms procedure own suspended q left = absurd q
       operated_same among (frame.Confines ∷ k) ms procedure own suspended (vs, is, inl (ending, q)) left = leads_same vs k ms procedure own suspended q left.2
-      operated_same among (frame.Confines ∷ k) ms procedure own suspended (vs, is, inr (ending, q)) left = leaves_same vs k ms procedure own suspended q left.2
+      operated_same among (frame.Confines ∷ k) ms procedure own suspended (vs, is, inr (inl (ending, q))) left = leaves_same vs k ms procedure own suspended q left.2
+      operated_same among (frame.Confines ∷ k) ms procedure own suspended (vs, is, inr (inr (ending, q))) left = begins_same vs k ms procedure own suspended q left.2
       operated_same among (frame.Awaits v by done of part tasks ∷ k) ms procedure own suspended (vs, is, beginning, q) left =
           leads_same vs k ms procedure own suspended q left.2
       operated_same among (f ∷ k) ms procedure own suspended q left = absurd q
 
-    -- Where a new object begins first, or a record is assigned to.
-    begins_same :
-        (among : List Value) (k : Control) (ms : List Master) (procedure : Option ℕ) (own : List Master) (suspended : List (Activation Value))
-        → FrugalBegins frugal back among k ms → Left procedure k own suspended → back ≡ behind
-    begins_same among [] ms procedure own suspended q left = absurd q
-    begins_same among (frame.Treats v (begins by done) tasks ∷ k) ms procedure own suspended q left = leads_same among k ms procedure own suspended q.1 left.2
-    begins_same among (frame.Treats v (ends cause) tasks ∷ k) ms procedure own suspended q left = begins_same among k ms procedure own suspended q.1 left.2
-    begins_same among (frame.Awaits v by done of part tasks ∷ k) ms procedure own suspended q left = leads_same among k ms procedure own suspended q.1 left.2
-    begins_same among (frame.Copies first t ∷ k) ms procedure own suspended q left =
-        let further = left_behind procedure (frame.Copies first t) k own suspended refl left in begins_same among k ms procedure further.0 suspended q further.1
-    begins_same among (frame.StoresRecord v first count ∷ k) ms procedure own suspended (inl q) left =
-        let further = left_behind procedure (frame.StoresRecord v first count) k own suspended refl left in begins_same among k ms procedure further.0 suspended q further.1
-    begins_same among (frame.StoresRecord v first count ∷ k) ms procedure own suspended (inr q) left =
-        let further = left_behind procedure (frame.StoresRecord v first count) k own suspended refl left in leads_same among k ms procedure further.0 suspended q further.1
-    begins_same among (f ∷ k) ms procedure own suspended q left = absurd q
+      -- Where a new object begins first, or a record is assigned to.
+      begins_same :
+          (among : List Value) (k : Control) (ms : List Master) (procedure : Option ℕ) (own : List Master) (suspended : List (Activation Value))
+          → FrugalBegins frugal back among k ms → Left procedure k own suspended → back ≡ behind
+      begins_same among [] ms procedure own suspended q left = absurd q
+      begins_same among (frame.Treats v (begins by done) tasks ∷ k) ms procedure own suspended q left = leads_same among k ms procedure own suspended q.1 left.2
+      begins_same among (frame.Treats v (ends cause) tasks ∷ k) ms procedure own suspended q left = begins_same among k ms procedure own suspended q.1 left.2
+      begins_same among (frame.Awaits v by done of part tasks ∷ k) ms procedure own suspended q left = leads_same among k ms procedure own suspended q.1 left.2
+      begins_same among (frame.Copies first t ∷ k) ms procedure own suspended q left =
+          let further = left_behind procedure (frame.Copies first t) k own suspended refl left in begins_same among k ms procedure further.0 suspended q further.1
+      begins_same among (frame.StoresRecord v first count ∷ k) ms procedure own suspended (inl (same, q)) left =
+          let further = left_behind procedure (frame.StoresRecord v first count) k own suspended refl left in begins_same among k ms procedure further.0 suspended q further.1
+      begins_same among (frame.StoresRecord v first count ∷ k) ms procedure own suspended (inr q) left =
+          let further = left_behind procedure (frame.StoresRecord v first count) k own suspended refl left in leads_same among k ms procedure further.0 suspended q further.1
+      begins_same among (frame.Confines ∷ k) ms procedure own suspended q left = begins_same among k ms procedure own suspended q.1 left.2
+      begins_same among (f ∷ k) ms procedure own suspended q left = absurd q
 
     -- Wherever they are.
     pub same_end :

@@ -1,16 +1,18 @@
 -- The body of an operation runs that touches storage, a frugal one (7.6, 7.6.1, 13.11.2), or one that it calls (6.4), or the operation of an object that it
 -- frees, allocates or declares: what is left before its end. Where bodies may allocate and free objects with controlled parts, these are initialized first, and
 -- finalized, also where an exception comes out of an Initialize; and where they may declare record objects, these are finalized where their master is left.
--- The body of an operation itself may assign to inert records (5.2): these are adjusted, and so are copies that are declared (3.3.1), for which an Adjust may be
--- called where none tracks.
+-- The body of an operation itself may assign to records with such parts (5.2), for which no Adjust is called, and no Finalize, or which lie in an object that the
+-- body declares, so that no operation of that runs. Copies that are declared (3.3.1) are adjusted, too; an Adjust may be called for these where none tracks.
 
-use Rattle.std.proofs.Common.{◌≡◌, ℕ, suc, ◌≤◌, Bool, true, false, ◌&&◌, List, [], ◌∷◌, ◌++◌, length, refl, sym, ap, subst, ◌⊎◌, inl, inr, arith}
+use Rattle.ada_meaning.specs.declared.state.Value.TheVariants.{Null}
+use Rattle.std.proofs.Common.{◌≡◌, ℕ, suc, ◌≤◌, Bool, true, false, ◌&&◌, List, [], ◌∷◌, ◌++◌, length, refl, sym, ap, subst, ◌⊎◌, inl, inr, arith, ◌∙◌}
 use Rattle.std.specs.Prelude.{◌||◌, Some}
 use Rattle.std.proofs.lemmas.Bool.{and_parts}
 use Rattle.ada_program.specs.declared.program.TypeDefinition.{TypeDefinition}
 use Rattle.ada_program.specs.Form.{ActualForm}
 use Rattle.ada_program.specs.WellFormed.{finalization_of, object_named}
 use Rattle.ada_quiet.specs.Calm.{is_known_calm}
+use Rattle.ada_assigned.specs.Law as assigned
 use Rattle.ada_finalized.specs.Law.{NoOperationRunsOn, finalized_before, waits_for_operation}
 use Rattle.ada_program.specs.ProgramForm.{TypeForm, BodyForm}
 use Rattle.ada_meaning.specs.declared.state.Value.{Value}
@@ -31,7 +33,7 @@ use Rattle.ada_parts.specs.Part.{Part}
 use Rattle.ada_typed.proofs.Control.{is_operation}
 use Rattle.ada_typed.proofs.Kept.{is_treatment}
 use Rattle.ada_sound.proofs.Invariant.{Control, IsAwaited}
-use Rattle.ada_sound.proofs.Allowance.{Allowance, is_inert, is_unadjusted, is_unfinalized, may_assign, may_treat, may_create, may_fill, allocates_thriftily, are_thrifty_declarations, are_thrifty, are_thrifty_branches, are_thrifty_handlers, is_thrifty_body, thrifty_parts}
+use Rattle.ada_sound.proofs.Allowance.{Allowance, is_unadjusted, is_unfinalized, may_assign, may_treat, may_create, may_fill, allocates_thriftily, are_thrifty_declarations, are_thrifty, are_thrifty_branches, are_thrifty_handlers, is_thrifty_body, thrifty_parts}
 use Rattle.ada_sound.proofs.InsideRecords.{TasksInside}
 
 -- An object ends in a body that frees it (13.11.2), or out of whose initialization an exception comes (7.6.1).
@@ -50,12 +52,19 @@ IsLeft (ends (Freeing number)) = ⊥
 IsLeft (ends (Assigning number)) = ⊥
 IsLeft (ends (Undoing number)) = ⊥
 
--- Or it is initialized, in the body of another operation that allocates or declares it (4.8, 3.3.1), or adjusted as a declared copy.
+-- Or a record of it is assigned to (5.2).
+abbrev pub IsAssigned : Cause → Type 0
+IsAssigned (Leaving m item) = ⊥
+IsAssigned (Freeing number) = ⊥
+IsAssigned (Assigning number) = Unit {0}
+IsAssigned (Undoing number) = ⊥
+
+-- Or it is initialized, in the body of another operation that allocates or declares it (4.8, 3.3.1), or adjusted as a copy.
 abbrev pub IsInside : Treatment → Type 0
 IsInside (begins Creation done) = Unit {0}
 IsInside (begins Copy done) = Unit {0}
-IsInside (begins (Adjustment number) done) = ⊥
-IsInside (ends cause) = IsEnded (ends cause) ⊎ IsLeft (ends cause)
+IsInside (begins (Adjustment number) done) = Unit {0}
+IsInside (ends cause) = (IsEnded (ends cause) ⊎ IsLeft (ends cause)) ⊎ IsAssigned cause
 
 -- A master of such a body owns variables, and record objects, where it may declare some.
 abbrev pub IsOwnedBy : Allowance → Owned → Type 0
@@ -70,14 +79,11 @@ AreOwnedBy allowance (i ∷ is) = IsOwnedBy allowance i.owned × AreOwnedBy allo
 
 -- An operation waits first.
 abbrev pub waits_first : Control → Bool
-waits_first [] = false
-waits_first (f ∷ k) = waits_for_operation f
+waits_first k = assigned.waits_first k
 
 -- The body that runs is that of an operation itself: one waits behind its end. Else it is one that is called.
 abbrev pub own_in : Control → Bool
-own_in [] = false
-own_in (Returns actuals references ∷ k) = waits_first k
-own_in (f ∷ k) = own_in k
+own_in k = assigned.is_of_operation k
 
 pub awaited_first : (k : Control) → IsAwaited k → waits_first k ≡ true
 awaited_first [] awaited = absurd awaited
@@ -96,13 +102,6 @@ IsAdjusted Creation = ⊥
 IsAdjusted Copy = Unit {0}
 IsAdjusted (Adjustment number) = Unit {0}
 
--- One is finalized that is assigned to (5.2).
-abbrev pub IsAssigned : Cause → Type 0
-IsAssigned (Leaving m item) = ⊥
-IsAssigned (Freeing number) = ⊥
-IsAssigned (Assigning number) = Unit {0}
-IsAssigned (Undoing number) = ⊥
-
 -- Another one is copied next.
 abbrev pub copies_first : Control → Bool
 copies_first [] = false
@@ -113,9 +112,29 @@ copies_first (f ∷ k) = false
 abbrev pub AreKnown : List TypeForm → (known : List Bool) → List Task → Type 0
 AreKnown types known tasks = (t : ℕ) × (is_known_calm known (finalization_of types t) ≡ true) × TasksInside types t tasks
 
--- The body of an operation itself assigns to an inert record (5.2).
-abbrev pub AssignsThere : Allowance → (tasks : List Task) → Control → Type 0
-AssignsThere frugal tasks k = (frugal.treats_parts ≡ true) × (own_in k ≡ true) × AreKnown frugal.types frugal.unfinalized tasks
+-- The components of another record are copied next, and stored in a record of this object.
+pub record IsReplacing (v : Value) (k : Control) : Type 0 where
+  pub first : ℕ
+  pub record_type : ℕ
+  pub to : ℕ
+  pub width : ℕ
+  pub rest : Control
+  pub is : k ≡ Copies first record_type ∷ StoresRecord v to width ∷ rest
+
+-- The object of the record that is finalized, adjusted or stored in next, as one is that is assigned to.
+abbrev pub replaced_in : Control → Value
+replaced_in [] = Null
+replaced_in (frame.Treats v treatment tasks ∷ k) = v
+replaced_in (frame.Awaits v by done of part tasks ∷ k) = v
+replaced_in (Copies first t ∷ k) = replaced_in k
+replaced_in (StoresRecord v first count ∷ k) = v
+replaced_in (frame.Confines ∷ k) = replaced_in k
+replaced_in (f ∷ k) = Null
+
+-- The body of an operation itself assigns to a record of this object (5.2), for which no Finalize is called; or no operation of the object runs.
+abbrev pub AssignsThere : Allowance → Value → (tasks : List Task) → Control → Type 0
+AssignsThere frugal v tasks k =
+    (frugal.treats_parts ≡ true) × (own_in k ≡ true) × IsReplacing v k × (AreKnown frugal.types frugal.unfinalized tasks ⊎ NoOperationRunsOn v k)
 
 -- All that is to be done for a record of a type is of such a record, and so is what is to be done for an object that is known by one.
 abbrev pub RecordIsInside : Allowance → List TypeDefinition → Type 0
@@ -125,12 +144,11 @@ RecordIsInside frugal tds =
 
 -- What it takes to assign to one.
 pub assigned_parts : (frugal : Allowance) (own : Bool) (t : ℕ) → may_assign frugal own t ≡ true
-    → (frugal.treats_parts ≡ true) × (own ≡ true) × (is_unfinalized frugal t ≡ true) × (is_unadjusted frugal t ≡ true)
+    → (frugal.treats_parts ≡ true) × (own ≡ true) × (((frugal.objects && frugal.untracked) || is_unadjusted frugal t) ≡ true)
 assigned_parts frugal own t may =
-    let two = and_parts (frugal.treats_parts && own) (is_inert frugal t) may in
+    let two = and_parts (frugal.treats_parts && own) ((frugal.objects && frugal.untracked) || is_unadjusted frugal t) may in
     let one = and_parts frugal.treats_parts own two.0 in
-    let inert = and_parts (is_unfinalized frugal t) (is_unadjusted frugal t) two.1 in
-    (one.0, one.1, inert.0, inert.1)
+    (one.0, one.1, two.1)
 
 -- A record that is assigned has no controlled parts, or that may be assigned.
 pub assigned_with : (parts bare may : Bool) → (bare ≡ true → parts ≡ false) → (bare || may) ≡ true → parts ≡ true → may ≡ true
@@ -151,8 +169,8 @@ abbrev pub AdjustsThere : Allowance → Value → Birth → (tasks : List Task) 
 AdjustsThere frugal v by tasks k = IsAdjusted by × UnadjustedThere frugal v by tasks k
 
 -- and finalized before another one is copied to it.
-abbrev pub EndsAssigned : Allowance → Cause → (tasks : List Task) → Control → Type 0
-EndsAssigned frugal cause tasks k = IsAssigned cause × (copies_first k ≡ true) × AssignsThere frugal tasks k
+abbrev pub EndsAssigned : Allowance → Value → Cause → (tasks : List Task) → Control → Type 0
+EndsAssigned frugal v cause tasks k = IsAssigned cause × (copies_first k ≡ true) × AssignsThere frugal v tasks k
 
 -- A new object begins first, or a record is adjusted, or that comes next behind what is copied to it.
 abbrev pub begins_first : Control → Bool
@@ -162,6 +180,7 @@ begins_first (frame.Treats v (ends cause) tasks ∷ k) = begins_first k
 begins_first (frame.Awaits v by done of part tasks ∷ k) = true
 begins_first (Copies first t ∷ k) = begins_first k
 begins_first (StoresRecord v first count ∷ k) = begins_first k
+begins_first (frame.Confines ∷ k) = begins_first k
 begins_first (f ∷ k) = false
 
 -- Where a new object begins, that goes on, or an exception comes out of it.
@@ -246,11 +265,15 @@ LeavesOperation frugal k = (frugal.objects ≡ true) × NoOperationRunsOn (final
 abbrev pub EndsOperation : Allowance → Control → Type 0
 EndsOperation frugal k = (frugal.treats_parts ≡ true) × NoOperationRunsOn (finalized_before k) k
 
--- An object is created (3.3.1, 4.8), by default, or as a copy, where no Adjust tracks.
+-- And with one of which a record is assigned to.
+abbrev pub ReplacesOperation : Allowance → Control → Type 0
+ReplacesOperation frugal k = (frugal.treats_parts ≡ true) × (replaced_in k ≡ finalized_before k) × NoOperationRunsOn (finalized_before k) k
+
+-- An object is created (3.3.1, 4.8), by default, or as a copy, or another one is copied to a record of it, where no Adjust tracks.
 abbrev pub IsCreated : Allowance → Birth → Type 0
 IsCreated frugal Creation = Unit {0}
 IsCreated frugal Copy = (frugal.untracked ≡ true)
-IsCreated frugal (Adjustment number) = ⊥
+IsCreated frugal (Adjustment number) = (frugal.untracked ≡ true)
 
 -- A new object begins, and behind that no operation of it runs.
 abbrev pub BeginsThere : Allowance → Value → Birth → Control → Type 0
@@ -291,12 +314,27 @@ module _ (frugal : Allowance) where
     FrugalLeaves behind among (frame.Confines ∷ k) ms = LeavesOperation frugal k × FrugalLeaves behind among k ms
     FrugalLeaves behind among (f ∷ k) ms = ⊥
 
-    -- What is left behind an operation of the first of these objects: the object is finalized, or it begins.
+    -- A new object begins first (4.8, 3.3.1, 7.6), and then this is left to do; or the body of an operation itself assigns to a record (5.2): that is
+    -- finalized, another one is copied to it, and it is adjusted.
+    pub FrugalBegins : (behind : Control) → (among : List Value) → Control → List Master → Type 0
+    FrugalBegins behind among [] ms = ⊥
+    FrugalBegins behind among (frame.Treats v (begins by done) tasks ∷ k) ms =
+        (BeginsThere frugal v by k ⊎ AdjustsThere frugal v by tasks k) × FrugalLeads behind among k ms
+    FrugalBegins behind among (frame.Treats v (ends cause) tasks ∷ k) ms = EndsAssigned frugal v cause tasks k × FrugalBegins behind among k ms
+    FrugalBegins behind among (Copies first t ∷ k) ms = FrugalBegins behind among k ms
+    FrugalBegins behind among (StoresRecord v first count ∷ k) ms =
+        ((replaced_in k ≡ v) × FrugalBegins behind among k ms) ⊎ FrugalLeads behind among k ms
+    FrugalBegins behind among (frame.Awaits v by done of part tasks ∷ k) ms = BeginsThere frugal v by k × FrugalLeads behind among k ms
+    FrugalBegins behind among (frame.Confines ∷ k) ms = ReplacesOperation frugal k × FrugalBegins behind among k ms
+    FrugalBegins behind among (f ∷ k) ms = ⊥
+
+    -- What is left behind an operation of the first of these objects: the object is finalized, or a record of it is that is assigned to, or it begins.
     pub FrugalOperated : (behind : Control) → (among : List Value) → Control → List Master → Type 0
     FrugalOperated behind among [] ms = ⊥
     FrugalOperated behind among (frame.Confines ∷ k) ms =
         (vs : List Value) × (among ≡ finalized_before k ∷ vs)
-        × ((EndsOperation frugal k × FrugalLeads behind vs k ms) ⊎ (LeavesOperation frugal k × FrugalLeaves behind vs k ms))
+        × ((EndsOperation frugal k × FrugalLeads behind vs k ms)
+        ⊎ ((LeavesOperation frugal k × FrugalLeaves behind vs k ms) ⊎ (ReplacesOperation frugal k × FrugalBegins behind vs k ms)))
     FrugalOperated behind among (frame.Awaits v by done of part tasks ∷ k) ms =
         (vs : List Value) × (among ≡ v ∷ vs) × BeginsThere frugal v by k × FrugalLeads behind vs k ms
     FrugalOperated behind among (f ∷ k) ms = ⊥
@@ -304,18 +342,6 @@ module _ (frugal : Allowance) where
   -- What is left behind the end of a body.
   abbrev pub FrugalReturns : (behind : Control) → (among : List Value) → Control → List Master → Type 0
   FrugalReturns behind among k ms = FrugalLeads behind among k ms ⊎ FrugalOperated behind among k ms
-
-  -- A new object begins first (4.8, 3.3.1, 7.6), and then this is left to do; or the body of an operation itself assigns to an inert record (5.2): that is
-  -- finalized, another one is copied to it, and it is adjusted.
-  abbrev pub FrugalBegins : (behind : Control) → (among : List Value) → Control → List Master → Type 0
-  FrugalBegins behind among [] ms = ⊥
-  FrugalBegins behind among (frame.Treats v (begins by done) tasks ∷ k) ms =
-      (BeginsThere frugal v by k ⊎ AdjustsThere frugal v by tasks k) × FrugalLeads behind among k ms
-  FrugalBegins behind among (frame.Treats v (ends cause) tasks ∷ k) ms = EndsAssigned frugal cause tasks k × FrugalBegins behind among k ms
-  FrugalBegins behind among (Copies first t ∷ k) ms = FrugalBegins behind among k ms
-  FrugalBegins behind among (StoresRecord v first count ∷ k) ms = FrugalBegins behind among k ms ⊎ FrugalLeads behind among k ms
-  FrugalBegins behind among (frame.Awaits v by done of part tasks ∷ k) ms = BeginsThere frugal v by k × FrugalLeads behind among k ms
-  FrugalBegins behind among (f ∷ k) ms = ⊥
 
   -- What comes next in the body.
   abbrev pub Frugal : (behind : Control) → (among : List Value) → Mode → Control → List Master → Type 0
@@ -419,7 +445,7 @@ pub leaves_operated :
     (frugal : Allowance) (back : Control) (among : List Value) (v : Value) (treatment : Treatment) (tasks : List Task) (k : Control) (ms : List Master) → LeavesThere frugal v treatment k
     → FrugalLeaves frugal back among k ms → FrugalOperated frugal back (v ∷ among) (frame.Confines ∷ treating v treatment tasks k) ms
 leaves_operated frugal back among v treatment tasks k ms ending q =
-    (among, ap (λ (w : Value). w ∷ among) (sym (before tasks)), inr ((ending.1, by tasks), treating_leaves frugal back among v treatment tasks k ms ending q))
+    (among, ap (λ (w : Value). w ∷ among) (sym (before tasks)), inr (inl ((ending.1, by tasks), treating_leaves frugal back among v treatment tasks k ms ending q)))
   where
     before : (left : List Task) → finalized_before (treating v treatment left k) ≡ v
     before [] = ending.2
@@ -428,6 +454,37 @@ leaves_operated frugal back among v treatment tasks k ms ending q =
     by : (left : List Task) → NoOperationRunsOn (finalized_before (treating v treatment left k)) (treating v treatment left k)
     by [] = subst (λ (w : Value). NoOperationRunsOn w k) (sym ending.2) ending.3
     by (task ∷ left) = ending.3
+
+-- The object in which components are stored next is the one of that record.
+pub replacing_before : (v : Value) (k : Control) → IsReplacing v k → finalized_before k ≡ v
+replacing_before v k replacing = ap finalized_before replacing.is
+
+pub replacing_in : (v : Value) (k : Control) → IsReplacing v k → replaced_in k ≡ v
+replacing_in v k replacing = ap replaced_in replacing.is
+
+-- The operation of one of its parts is called, where it is assigned to and no other operation of its object runs.
+pub replaces_operated :
+    (frugal : Allowance) (back : Control) (among : List Value) (v : Value) (cause : Cause) (tasks : List Task) (k : Control) (ms : List Master) → IsAssigned cause
+    → copies_first k ≡ true → frugal.treats_parts ≡ true → own_in k ≡ true → IsReplacing v k → NoOperationRunsOn v k → FrugalBegins frugal back among k ms
+    → FrugalOperated frugal back (v ∷ among) (frame.Confines ∷ treating v (ends cause) tasks k) ms
+replaces_operated frugal back among v cause tasks k ms assigns copies treats own replacing alone q =
+    (among, ap (λ (w : Value). w ∷ among) (sym (before tasks)), inr (inr ((treats, same tasks, by tasks), goes tasks)))
+  where
+    before : (left : List Task) → finalized_before (treating v (ends cause) left k) ≡ v
+    before [] = replacing_before v k replacing
+    before (task ∷ left) = refl
+
+    same : (left : List Task) → replaced_in (treating v (ends cause) left k) ≡ finalized_before (treating v (ends cause) left k)
+    same [] = replacing_in v k replacing ∙ sym (replacing_before v k replacing)
+    same (task ∷ left) = refl
+
+    by : (left : List Task) → NoOperationRunsOn (finalized_before (treating v (ends cause) left k)) (treating v (ends cause) left k)
+    by [] = subst (λ (w : Value). NoOperationRunsOn w k) (sym (replacing_before v k replacing)) alone
+    by (task ∷ left) = alone
+
+    goes : (left : List Task) → FrugalBegins frugal back among (treating v (ends cause) left k) ms
+    goes [] = q
+    goes (task ∷ left) = ((assigns, copies, (treats, own, replacing, inr alone)), q)
 
 -- Or an operation begins a part of a new object.
 pub begun_leads :
@@ -443,7 +500,7 @@ pub beginning_frugal :
 beginning_frugal frugal back among v by done [] k ms beginning q = inl q
 beginning_frugal frugal back among v by done (task ∷ tasks) k ms beginning q = inr (inr (tt, (inl beginning, q)))
 
--- An inert record that was assigned to is adjusted first, if anything is to be done for that.
+-- A record that was assigned to is adjusted first, if anything is to be done for that.
 pub adjusting_frugal :
     (frugal : Allowance) (back : Control) (among : List Value) (v : Value) (by : Birth) (done : List Part) (tasks : List Task) (k : Control) (ms : List Master) → AdjustsThere frugal v by tasks k → FrugalLeads frugal back among k ms
     → Frugal frugal back among Running (treating v (begins by done) tasks k) ms
@@ -452,15 +509,15 @@ adjusting_frugal frugal back among v by done (task ∷ tasks) k ms adjusting q =
 
 -- So it is where its components are stored first,
 pub storing_frugal :
-    (frugal : Allowance) (back : Control) (among : List Value) (w : Value) (first count : ℕ) (v : Value) (by : Birth) (done : List Part) (tasks : List Task) (k : Control) (ms : List Master)
-    → AdjustsThere frugal v by tasks k → FrugalLeads frugal back among k ms
-    → FrugalBegins frugal back among (StoresRecord w first count ∷ treating v (begins by done) tasks k) ms
-storing_frugal frugal back among w first count v by done [] k ms adjusting q = inr q
-storing_frugal frugal back among w first count v by done (task ∷ tasks) k ms adjusting q = inl (inr adjusting, q)
+    (frugal : Allowance) (back : Control) (among : List Value) (v : Value) (first count : ℕ) (by : Birth) (done : List Part) (tasks : List Task) (k : Control) (ms : List Master)
+    → BeginsThere frugal v by k ⊎ AdjustsThere frugal v by tasks k → FrugalLeads frugal back among k ms
+    → FrugalBegins frugal back among (StoresRecord v first count ∷ treating v (begins by done) tasks k) ms
+storing_frugal frugal back among v first count by done [] k ms adjusting q = inr q
+storing_frugal frugal back among v first count by done (task ∷ tasks) k ms adjusting q = inl (refl, (adjusting, q))
 
 -- and where it is finalized before.
 pub finalizing_frugal :
-    (frugal : Allowance) (back : Control) (among : List Value) (v : Value) (cause : Cause) (tasks : List Task) (k : Control) (ms : List Master) → EndsAssigned frugal cause tasks k
+    (frugal : Allowance) (back : Control) (among : List Value) (v : Value) (cause : Cause) (tasks : List Task) (k : Control) (ms : List Master) → EndsAssigned frugal v cause tasks k
     → FrugalBegins frugal back among k ms → Frugal frugal back among Running (treating v (ends cause) tasks k) ms
 finalizing_frugal frugal back among v cause [] k ms ending q = inr (inr (tt, q))
 finalizing_frugal frugal back among v cause (task ∷ tasks) k ms ending q = inr (inr (tt, (ending, q)))
@@ -489,7 +546,7 @@ none_beginning frugal none idle behind among (frame.Treats v (begins by done) ta
 none_beginning frugal none idle behind among (frame.Treats v (begins by done) tasks) k ms (inr adjusting, q) = let may = adjusting.1.0 in absurd (cc (none, may))
 none_beginning frugal none idle behind among (frame.Treats v (ends cause) tasks) k ms q = let may = q.0.2.0 in absurd (cc (none, may))
 none_beginning frugal none idle behind among (frame.Awaits v by done of part tasks) k ms ((creation, may, alone), q) = absurd (cc (idle, may))
-none_beginning frugal none idle behind among frame.Confines k ms q = absurd q
+none_beginning frugal none idle behind among frame.Confines k ms q = let may = q.0.0 in absurd (cc (none, may))
 none_beginning frugal none idle behind among f k ms q = (refl, refl)
 
 -- Where the body runs on, no object begins first.
@@ -500,6 +557,7 @@ leads_first frugal behind among (frame.Treats v (ends cause) tasks ∷ k) ms q =
 leads_first frugal behind among (frame.Awaits v by done of part tasks ∷ k) ms q = absurd q.0
 leads_first frugal behind among (Copies first t ∷ k) ms q = leads_first frugal behind among k ms q.1
 leads_first frugal behind among (StoresRecord v first count ∷ k) ms q = leads_first frugal behind among k ms q.1
+leads_first frugal behind among (frame.Confines ∷ k) ms q = leads_first frugal behind among k ms q.1
 leads_first frugal behind among (f ∷ k) ms q = refl
 
 mutual
@@ -532,9 +590,21 @@ mutual
   operated_longer : (frugal : Allowance) (behind : Control) (among : List Value) (k : Control) (ms : List Master) → FrugalOperated frugal behind among k ms → suc (length behind) ≤ length k
   operated_longer frugal behind among [] ms q = absurd q
   operated_longer frugal behind among (frame.Confines ∷ k) ms (vs, is, inl (ending, q)) = let longer = leads_longer frugal behind vs k ms q in omega (arith, longer)
-  operated_longer frugal behind among (frame.Confines ∷ k) ms (vs, is, inr (ending, q)) = let longer = leaves_longer frugal behind vs k ms q in omega (arith, longer)
+  operated_longer frugal behind among (frame.Confines ∷ k) ms (vs, is, inr (inl (ending, q))) = let longer = leaves_longer frugal behind vs k ms q in omega (arith, longer)
+  operated_longer frugal behind among (frame.Confines ∷ k) ms (vs, is, inr (inr (ending, q))) = let longer = begins_longer frugal behind vs k ms q in omega (arith, longer)
   operated_longer frugal behind among (frame.Awaits v by done of part tasks ∷ k) ms (vs, is, beginning, q) = let longer = leads_longer frugal behind vs k ms q in omega (arith, longer)
   operated_longer frugal behind among (f ∷ k) ms q = absurd q
+
+  begins_longer : (frugal : Allowance) (behind : Control) (among : List Value) (k : Control) (ms : List Master) → FrugalBegins frugal behind among k ms → suc (length behind) ≤ length k
+  begins_longer frugal behind among [] ms q = absurd q
+  begins_longer frugal behind among (frame.Treats v (begins by done) tasks ∷ k) ms q = let longer = leads_longer frugal behind among k ms q.1 in omega (arith, longer)
+  begins_longer frugal behind among (frame.Treats v (ends cause) tasks ∷ k) ms q = let longer = begins_longer frugal behind among k ms q.1 in omega (arith, longer)
+  begins_longer frugal behind among (Copies first t ∷ k) ms q = let longer = begins_longer frugal behind among k ms q in omega (arith, longer)
+  begins_longer frugal behind among (StoresRecord v first count ∷ k) ms (inl (same, q)) = let longer = begins_longer frugal behind among k ms q in omega (arith, longer)
+  begins_longer frugal behind among (StoresRecord v first count ∷ k) ms (inr q) = let longer = leads_longer frugal behind among k ms q in omega (arith, longer)
+  begins_longer frugal behind among (frame.Awaits v by done of part tasks ∷ k) ms q = let longer = leads_longer frugal behind among k ms q.1 in omega (arith, longer)
+  begins_longer frugal behind among (frame.Confines ∷ k) ms q = let longer = begins_longer frugal behind among k ms q.1 in omega (arith, longer)
+  begins_longer frugal behind among (f ∷ k) ms q = absurd q
 
 shorter : (frugal : Allowance) (back : Control) (among : List Value) (k : Control) (ms : List Master) → FrugalLeads frugal back among k ms → k ≡ back → ⊥
 shorter frugal back among k ms q is =
@@ -564,7 +634,10 @@ operated_on frugal back vs mode [] ms may q = absurd q
 operated_on frugal back vs mode (frame.Confines ∷ k) ms may (ws, is, inl (ending, q)) =
     let same : vs ≡ ws = cc is in
     inl (ending, subst (λ (us : List Value). FrugalLeads frugal back us k ms) (sym same) q)
-operated_on frugal back vs mode (frame.Confines ∷ k) ms may (ws, is, inr (ending, q)) =
+operated_on frugal back vs mode (frame.Confines ∷ k) ms may (ws, is, inr (inr (ending, q))) =
+    let same : vs ≡ ws = cc is in
+    inr (inr (may, (ending, subst (λ (us : List Value). FrugalBegins frugal back us k ms) (sym same) q)))
+operated_on frugal back vs mode (frame.Confines ∷ k) ms may (ws, is, inr (inl (ending, q))) =
     let same : vs ≡ ws = cc is in
     inr (inl (may, (ending, subst (λ (us : List Value). FrugalLeaves frugal back us k ms) (sym same) q)))
 operated_on frugal back vs mode (frame.Awaits v by done of part tasks ∷ k) ms may (ws, is, beginning, q) =
@@ -632,7 +705,20 @@ module _ (frugal : Allowance) (i : Item) (variable : IsOwnedBy frugal i.owned) w
         → FrugalOperated frugal behind among j (m ∷ ms) → FrugalOperated frugal behind among j (with_variable i m ∷ ms)
     more_operated behind among [] m ms q = q
     more_operated behind among (frame.Confines ∷ k) m ms (vs, is, inl (ending, q)) = (vs, is, inl (ending, more_leads behind vs k m ms q))
-    more_operated behind among (frame.Confines ∷ k) m ms (vs, is, inr (ending, q)) = (vs, is, inr (ending, more_leaves behind vs k m ms q))
+    more_operated behind among (frame.Confines ∷ k) m ms (vs, is, inr (inl (ending, q))) = (vs, is, inr (inl (ending, more_leaves behind vs k m ms q)))
+    more_operated behind among (frame.Confines ∷ k) m ms (vs, is, inr (inr (ending, q))) = (vs, is, inr (inr (ending, more_begins behind vs k m ms q)))
     more_operated behind among (frame.Awaits v by done of part tasks ∷ k) m ms (vs, is, beginning, q) =
         (vs, is, beginning, more_leads behind vs k m ms q)
     more_operated behind among (f ∷ k) m ms q = q
+
+    more_begins : (behind : Control) (among : List Value) (j : Control) (m : Master) (ms : List Master)
+        → FrugalBegins frugal behind among j (m ∷ ms) → FrugalBegins frugal behind among j (with_variable i m ∷ ms)
+    more_begins behind among [] m ms q = q
+    more_begins behind among (frame.Treats v (begins by done) tasks ∷ k) m ms q = (q.0, more_leads behind among k m ms q.1)
+    more_begins behind among (frame.Treats v (ends cause) tasks ∷ k) m ms q = (q.0, more_begins behind among k m ms q.1)
+    more_begins behind among (Copies first t ∷ k) m ms q = more_begins behind among k m ms q
+    more_begins behind among (StoresRecord v first count ∷ k) m ms (inl (same, q)) = inl (same, more_begins behind among k m ms q)
+    more_begins behind among (StoresRecord v first count ∷ k) m ms (inr q) = inr (more_leads behind among k m ms q)
+    more_begins behind among (frame.Awaits v by done of part tasks ∷ k) m ms q = (q.0, more_leads behind among k m ms q.1)
+    more_begins behind among (frame.Confines ∷ k) m ms q = (q.0, more_begins behind among k m ms q.1)
+    more_begins behind among (f ∷ k) m ms q = q

@@ -2,6 +2,7 @@
 -- nothing is treated next but an object that is freed or undone, or whose master is left, or a new one that begins (4.8, 3.3.1), and what is called is frugal,
 -- too (6.4).
 
+use Rattle.ada_meaning.specs.declared.state.Id.{Id}
 use Rattle.std.proofs.Common.{◌≡◌, ℕ, Bool, true, false, List, [], ◌∷◌, ◌++◌, refl, sym, ◌∙◌, subst, ◌⊎◌, inl, inr}
 use Rattle.std.specs.Prelude.{ℤ, map, Option, Some, None, is_some, drop, Result, Ok, Err, not, ◌&&◌, ◌||◌, ◌==◌, int_le, if◌then◌else◌}
 use Rattle.std.specs.List.{slice_get, slice_index_or}
@@ -26,12 +27,12 @@ use Rattle.ada_meaning.specs.declared.event.Birth.{Birth}
 use Rattle.ada_meaning.specs.declared.event.Birth.TheVariants.{Creation, Copy, Adjustment}
 use Rattle.ada_meaning.specs.declared.state.Place.{Place}
 use Rattle.ada_meaning.specs.declared.state.Value.{Value}
-use Rattle.ada_meaning.specs.declared.state.Value.TheVariants.{Null}
+use Rattle.ada_meaning.specs.declared.state.Value.TheVariants.{Null, Names, Scalar, Part as Inside}
 use Rattle.ada_meaning.specs.declared.state.Mode.{Mode}
 use Rattle.ada_meaning.specs.declared.state.Mode.TheVariants.{Running, Raising, Exiting, Returning}
 use Rattle.ada_meaning.specs.Event.{Event, Followed, Quiet}
 use Rattle.ada_meaning.specs.Heap.{Cell, Found, on_null, on_gone, on_other, finds, PartState}
-use Rattle.std.proofs.lemmas.Bool.{eq-eqb, or_right}
+use Rattle.std.proofs.lemmas.Bool.{eq-eqb, or_right, or_cases, and_parts}
 use Rattle.ada_parts.specs.Task.{performs}
 use Rattle.ada_meaning.specs.Frame.{Frame, Elaborates, Leaves, Resumes, Calls, TestsNull, RefersIn, OpensIn, Fills, Copies, Targets, Receives, FreesIn, Declares, DeclaresRecord, Ends, GivesBack, Clears, ClearsIn, Confines, TargetsRecord, StoresRecord, begins, ends}
 use Rattle.ada_meaning.specs.State.{Activation, Item, Master, Owned, declared, collection, record_object, storage_pool, Destination, height, home_of, pool_freed_to}
@@ -41,11 +42,11 @@ use Rattle.ada_quiet.specs.Bare.{has_bare_objects}
 use Rattle.ada_finalized.specs.Law.{NoOperationRunsOn}
 use Rattle.ada_owners.proofs.Objects.{next_id}
 use Rattle.ada_scopes.specs.Scopes.{is_innermost, is_number_of}
-use Rattle.ada_sound.proofs.Allowance.{Allowance, fills_parts, is_unadjusted, is_unfinalized, may_assign, body_more, may_treat, allocates_thriftily, is_thrifty_declaration, are_thrifty_declarations, is_thrifty_stmt, are_thrifty, are_thrifty_branches, are_thrifty_handlers, is_thrifty_body, thrifty_parts}
+use Rattle.ada_sound.proofs.Allowance.{Allowance, fills_parts, is_unadjusted, is_unfinalized, may_assign, body_more, may_treat, allocates_thriftily, is_thrifty_declaration, are_thrifty_declarations, is_thrifty_stmt, are_thrifty, are_thrifty_branches, are_thrifty_handlers, is_thrifty_body, thrifty_parts, is_inert}
 use Rattle.ada_sound.proofs.Fits.{place_at}
 use Rattle.ada_sound.proofs.Invariant.{Control}
 use Rattle.ada_sound.proofs.OperationStarts.{apart}
-use Rattle.ada_sound.proofs.FrugalControl.{AreKnown, AreOwnedBy, BeginsThere, FrugalBegins, FrugalLeads, FrugalLeaves, Frugally, GoesFrugally, IsLeft, IsOwnedBy, MayLeave, RecordIsInside, adjusting_frugal, assigned_parts, assigned_with, beginning_frugal, finalizing_frugal, more_leads, own_in, own_treating, storing_frugal, treating_leads, treating_leaves, waits_first, with_variable}
+use Rattle.ada_sound.proofs.FrugalControl.{AreKnown, AreOwnedBy, BeginsThere, FrugalBegins, FrugalLeads, FrugalLeaves, Frugally, GoesFrugally, IsLeft, IsOwnedBy, MayLeave, RecordIsInside, adjusting_frugal, assigned_parts, assigned_with, beginning_frugal, finalizing_frugal, more_leads, own_in, own_treating, storing_frugal, treating_leads, treating_leaves, waits_first, with_variable, replaced_in, AdjustsThere}
 use Rattle.ada_sound.proofs.FrugalFrees.{RecordIsBare, IsFreely, StmtIsFreely, IsNewly, LeftAlone, Unborn, past_unborn}
 use Rattle.ada_sound.proofs.Stored.{IsTaken, taken_is}
 
@@ -278,18 +279,20 @@ module _ (frugal : Allowance) (lower : List Master) (behind : Control) (among : 
         let v = place_at (places_of all) p.object.root in
         path_on (selected named v p.object.selectors) (whole v) all (TargetsRecord (place_in named v p.object.selectors p).component p.record_type items ∷ k) (tt, q)
 
-    -- Where target and source are found and are not one, the target is finalized, the source is copied to it, and it is adjusted.
-    assigning_on : (t : ℕ) (target source : Value) → RecordIsInside frugal tds → (all : List (Activation Value)) → (k : Control) → may_assign frugal (own_in k) t ≡ true → Left k → Goes (assigning named tds t target source (now all k ms))
-    assigning_on t target source inert all k may q = record {
+    -- Where target and source are found and are not one, the target is finalized, the source is copied to it, and it is adjusted. Where an operation may be called
+    -- for that, none of its object runs.
+    assigning_on : (t : ℕ) (target source : Value) → RecordIsInside frugal tds → (all : List (Activation Value)) → (k : Control) → may_assign frugal (own_in k) t ≡ true
+        → (own_in k ≡ true → is_inert frugal t ≡ false → NoOperationRunsOn (named.whole target) k) → Left k → Goes (assigning named tds t target source (now all k ms))
+    assigning_on t target source inert all k may apart q = record {
       upper = ms;
       masters = refl;
       frugally = finalizing_frugal frugal behind among (named.whole target) (Assigning s.next) (record_tasks tds t WholeFirst (named.part_base target)) copied ms
-          (tt, refl, (own.0, own_copied, (t, own.2, inert.0 t WholeFirst (named.part_base target))))
-          (storing_frugal frugal behind among (named.whole target) (named.base target) (width_of tds t) (named.whole target) (Adjustment s.next) [] adjusted k ms
-          (tt, (own.0, (t, own.3, inert.0 t PartsFirst (named.part_base target)), tt)) q);
+          (tt, refl, (own.0, own_copied, record { first = named.base source; record_type = t; to = named.base target; width = width_of tds t; rest = treating (named.whole target) (begins (Adjustment s.next) []) adjusted k; is = refl }, quiet_or_alone (is_inert frugal t) refl))
+          (storing_frugal frugal behind among (named.whole target) (named.base target) (width_of tds t) (Adjustment s.next) [] adjusted k ms
+          (unadjusted_or_alone (is_inert frugal t) refl) q);
     }
       where
-        own : (frugal.treats_parts ≡ true) × (own_in k ≡ true) × (is_unfinalized frugal t ≡ true) × (is_unadjusted frugal t ≡ true)
+        own : (frugal.treats_parts ≡ true) × (own_in k ≡ true) × (((frugal.objects && frugal.untracked) || is_unadjusted frugal t) ≡ true)
         own = assigned_parts frugal (own_in k) t may
 
         adjusted : List Task
@@ -301,10 +304,37 @@ module _ (frugal : Allowance) (lower : List Master) (behind : Control) (among : 
         own_copied : own_in copied ≡ true
         own_copied = own_treating (named.whole target) (begins (Adjustment s.next) []) adjusted k ∙ own.1
 
-    pub assigned_on : (t : ℕ) (target source : Value) (same : Option Bool) → RecordIsInside frugal tds → (all : List (Activation Value)) → (k : Control) → may_assign frugal (own_in k) t ≡ true → Left k → Fine (assigns_next named tds t target source same (now all k ms))
-    assigned_on t target source None inert all k may q = tt
-    assigned_on t target source (Some true) inert all k may q = on _ refl q
-    assigned_on t target source (Some false) inert all k may q = assigning_on t target source inert all k may q
+        alone_treating : (left : List Task) → NoOperationRunsOn (named.whole target) k → NoOperationRunsOn (named.whole target) (treating (named.whole target) (begins (Adjustment s.next) []) left k)
+        alone_treating [] none = none
+        alone_treating (task ∷ left) none = none
+
+        -- It is adjusted: no Adjust is called for that, or none tracks.
+        known_unadjusted : is_unadjusted frugal t ≡ true → AdjustsThere frugal (named.whole target) (Adjustment s.next) adjusted k
+        known_unadjusted is = (tt, (own.0, (t, is, inert.0 t PartsFirst (named.part_base target)), tt))
+
+        unadjusted_or_alone : (none : Bool) → is_inert frugal t ≡ none
+            → BeginsThere frugal (named.whole target) (Adjustment s.next) k ⊎ AdjustsThere frugal (named.whole target) (Adjustment s.next) adjusted k
+        unadjusted_or_alone true is = inr (known_unadjusted (and_parts (is_unfinalized frugal t) (is_unadjusted frugal t) is).1)
+        unadjusted_or_alone false is =
+            elim (or_cases (frugal.objects && frugal.untracked) (is_unadjusted frugal t) own.2) [
+              | inl both ↦ let two = and_parts frugal.objects frugal.untracked both in inl (two.1, two.0, apart own.1 is)
+              | inr known ↦ inr (known_unadjusted known)
+            ]
+
+        quiet_or_alone : (none : Bool) → is_inert frugal t ≡ none
+            → AreKnown frugal.types frugal.unfinalized (record_tasks tds t WholeFirst (named.part_base target)) ⊎ NoOperationRunsOn (named.whole target) copied
+        quiet_or_alone true is = inl (t, (and_parts (is_unfinalized frugal t) (is_unadjusted frugal t) is).0, inert.0 t WholeFirst (named.part_base target))
+        quiet_or_alone false is = inr (alone_treating adjusted (apart own.1 is))
+
+    pub assigned_on : (t : ℕ) (target source : Value) (same : Option Bool) → named.same target source ≡ same → RecordIsInside frugal tds → (all : List (Activation Value)) → (k : Control) → may_assign frugal (own_in k) t ≡ true
+        → (own_in k ≡ true → is_inert frugal t ≡ false → (o : Id) (place : Place) → target ≡ Inside o place → NoOperationRunsOn (Names o) k) → Left k → Fine (assigns_next named tds t target source same (now all k ms))
+    assigned_on t target source None is inert all k may apart q = tt
+    assigned_on t target source (Some true) is inert all k may apart q = on _ refl q
+    assigned_on t Null source (Some false) is inert all k may apart q = absurd (cc is)
+    assigned_on t (Names o) source (Some false) is inert all k may apart q = absurd (cc is)
+    assigned_on t (Scalar n) source (Some false) is inert all k may apart q = absurd (cc is)
+    assigned_on t (Inside o place) source (Some false) is inert all k may apart q =
+        assigning_on t (Inside o place) source inert all k may (λ own unfinalized. apart own unfinalized o place refl) q
 
     pub record_target_on : (o : Value) (first count : ℕ) (items : List ItemForm) (found : Found (Cell Value)) (all : List (Activation Value)) → (k : Control) → Left k → Fine (record_target_next named o first count items found (now all k ms))
     record_target_on o first count items on_null all k q = raises_on ConstraintError all k q
@@ -620,7 +650,7 @@ module _ (frugal : Allowance) (lower : List Master) (behind : Control) (among : 
   }
 
   -- An inert record is assigned to: another one is copied,
-  begins_so : (ms : List Master) (after : State) → after.masters ≡ ms ++ lower → after.mode ≡ Running → FrugalBegins frugal behind among after.control ms → Goes after
+  pub begins_so : (ms : List Master) (after : State) → after.masters ≡ ms ++ lower → after.mode ≡ Running → FrugalBegins frugal behind among after.control ms → Goes after
   begins_so ms after masters runs q = record { upper = ms; masters = masters; frugally = rw runs (inr (inr (tt, q))) }
 
   pub breaks_so : (ms : List Master) (e : Exception) (after : State) → after.masters ≡ ms ++ lower → after.mode ≡ Raising e → FrugalBegins frugal behind among after.control ms → Goes after
@@ -641,13 +671,13 @@ module _ (frugal : Allowance) (lower : List Master) (behind : Control) (among : 
   storing_on ms o first vs None all k q = tt
   storing_on ms o first vs (Some before) all k q = begins_so ms _ refl refl q
 
-  pub store_begin_on : (ms : List Master) (o : Value) (first count : ℕ) (found : Found (Cell Value)) (all : List (Activation Value)) (k : Control) → FrugalBegins frugal behind among k ms ⊎ FrugalLeads frugal behind among k ms
+  pub store_begin_on : (ms : List Master) (o : Value) (first count : ℕ) (found : Found (Cell Value)) (all : List (Activation Value)) (k : Control) → ((replaced_in k ≡ o) × FrugalBegins frugal behind among k ms) ⊎ FrugalLeads frugal behind among k ms
       → Fine (store_record_next named o first count found (now all k ms))
   store_begin_on ms o first count found all k (inr q) = store_record_on ms o first count found all k q
-  store_begin_on ms o first count on_null all k (inl q) = tt
-  store_begin_on ms o first count on_gone all k (inl q) = tt
-  store_begin_on ms o first count on_other all k (inl q) = tt
-  store_begin_on ms o first count (finds cell) all k (inl q) =
+  store_begin_on ms o first count on_null all k (inl (same, q)) = tt
+  store_begin_on ms o first count on_gone all k (inl (same, q)) = tt
+  store_begin_on ms o first count on_other all k (inl (same, q)) = tt
+  store_begin_on ms o first count (finds cell) all k (inl (same, q)) =
       storing_on ms o first (newest_ones named count (now all k ms)) (record_in cell.values first count) (with_operands (drop count (operands_of all)) all) k q
 
   -- A master is left.

@@ -1,6 +1,7 @@
 -- What a frugal body allocates has no controlled parts (4.8, 7.6), as the access types say that it names, or none of its operations runs behind that; nor has a
 -- record that it assigns some (5.2): its assignments treat nothing. What it frees has none, either, or no operation of that object runs (7.6.1, 13.11.2).
 
+use Rattle.ada_meaning.specs.declared.state.Place.{Place}
 use Rattle.std.proofs.Common.{◌≡◌, ℕ, zero, suc, Bool, true, false, ◌&&◌, if◌then◌else◌, List, [], ◌∷◌, refl, sym, ap, ◌∙◌, subst, ◌⊎◌, inl, inr}
 use Rattle.std.specs.Prelude.{Option, Some, None, is_some, not, ◌||◌}
 use Rattle.std.specs.List.{list_all, slice_get}
@@ -30,10 +31,10 @@ use Rattle.ada_meaning.specs.declared.state.Mode.{Mode}
 use Rattle.ada_meaning.specs.declared.state.Mode.TheVariants.{Running}
 use Rattle.ada_meaning.specs.declared.state.Value.{Value}
 use Rattle.ada_meaning.specs.declared.state.Value.TheVariants.{Null, Names, Scalar, Part}
-use Rattle.ada_meaning.specs.Frame.{Frame, Does, FreesIn, Leaves}
+use Rattle.ada_meaning.specs.Frame.{Frame, Does, FreesIn, Leaves, Assigns}
 use Rattle.ada_meaning.specs.Heap.{Cell, Found, on_null, on_gone, on_other, finds}
 use Rattle.ada_meaning.specs.State.{Activation, Master}
-use Rattle.ada_meaning.specs.Step.{has_parts, all_tasks, tasks_for, first_or, places_of, operands_of, places, operands}
+use Rattle.ada_meaning.specs.Step.{has_parts, all_tasks, tasks_for, first_or, places_of, operands_of, places, operands, older}
 use Rattle.ada_meaning.specs.Named.{Object, State, object_at, look, seen, existing, all_alive, standing, standing_by}
 use Rattle.ada_typed.specs.Holding.{Cells, Designates, IsAccess, HasKind, cells_of}
 use Rattle.ada_typed.proofs.Control as typed
@@ -45,12 +46,12 @@ use Rattle.ada_typed.proofs.Targets.{component_there}
 use Rattle.ada_typed.proofs.Values as typing
 use Rattle.ada_typed.proofs.Values.{OperandKind, of_kind, AreComputed}
 use Rattle.ada_scopes.specs.Scopes.{is_innermost}
-use Rattle.ada_sound.proofs.Allowance.{Allowance, may_create, may_treat, are_thrifty}
+use Rattle.ada_sound.proofs.Allowance.{Allowance, may_create, may_treat, are_thrifty, is_unfinalized, is_inert}
 use Rattle.ada_sound.proofs.Assigned.{access_from, this_is}
 use Rattle.ada_sound.proofs.Calm.{ends_operation, operation_ends_there}
 use Rattle.ada_sound.proofs.Fits.{place_at}
 use Rattle.ada_sound.proofs.FreedInside.{IsFreedNext}
-use Rattle.ada_sound.proofs.FrugalControl.{Frugal, FrugalLeads, own_in}
+use Rattle.ada_sound.proofs.FrugalControl.{Frugal, FrugalLeads, own_in, assigned_parts}
 use Rattle.ada_sound.proofs.Invariant.{Control}
 use Rattle.ada_sound.proofs.OperationStarts.{apart}
 use Rattle.ada_sound.proofs.Standing.{FreesAmong}
@@ -325,11 +326,21 @@ module _ (frugal : Allowance) (tds : List TypeDefinition) where
   StmtIsFreely (frees access path) k heap places = path.selectors ≡ [] → IsFreely k (place_at places path.root) (standing heap (place_at places path.root))
   StmtIsFreely f k heap places = Unit {0}
 
+  -- Where the body of an operation assigns to a record for which an operation may be called, none runs of the object in which that lies (5.2).
+  abbrev pub IsBeside : (record_type : ℕ) → Control → (operands : List Value) → Type 0
+  IsBeside t k operands =
+      own_in k ≡ true → is_inert frugal t ≡ false → (o : Id) (place : Place) → first_or Null (older operands) ≡ Part o place → NoOperationRunsOn (Names o) k
+
+  abbrev pub AssignsBeside : Control → (operands : List Value) → Type 0
+  AssignsBeside (Assigns t ∷ k) operands = IsBeside t k operands
+  AssignsBeside k operands = Unit {0}
+
   -- And of the one that a frame frees that a component names.
   abbrev pub FrameIsFreely : Frame Value → Control → List Object → (places operands : List Value) → Type 0
   FrameIsFreely (Does (a_stmt f fs)) k heap places operands = StmtIsFreely f (Does fs ∷ k) heap places
   FrameIsFreely (FreesIn access c) k heap places operands =
       (cell : Cell Value) (w : Value) → look heap (first_or Null operands) ≡ finds cell → slice_get cell.values c ≡ Some w → IsFreely k w (standing heap w)
+  FrameIsFreely (Assigns t) k heap places operands = IsBeside t k operands
   FrameIsFreely f k heap places operands = Unit {0}
 
   -- And of the first frame.
@@ -371,17 +382,18 @@ module _ (frugal : Allowance) (tds : List TypeDefinition) where
   -- What is freed next in a frugal body may be so, where it is among these access types.
   pub next_freely :
       ObjectIsBare frugal.types tds → (may : ℕ → Bool) (behind : Control) (among : List Value) (heap : List Object) (values results : List Value) (k : Control) (ms : List Master)
-      → (frugal.treats_parts ≡ true → ListedAlone may (IsFreedNext heap values results k) heap k)
+      → (frugal.treats_parts ≡ true → ListedAlone may (IsFreedNext heap values results k) heap k) → (frugal.treats_parts ≡ true → AssignsBeside k results)
       → FrugalLeads frugal behind among k ms → FreesAmong may k → NextFreesOwn k heap values results → NextIsFreely k heap values results
-  next_freely bare may behind among heap values results [] ms alone q freely own = tt
-  next_freely bare may behind among heap values results (Does (a_stmt (frees access path) fs) ∷ k) ms alone q freely own =
+  next_freely bare may behind among heap values results [] ms alone beside q freely own = tt
+  next_freely bare may behind among heap values results (Does (a_stmt (frees access path) fs) ∷ k) ms alone beside q freely own =
       λ stands. is_freely bare may (IsFreedNext heap values results (Does (a_stmt (frees access path) fs) ∷ k)) heap (Does fs ∷ k) alone (place_at values path.root) access
       (λ o names. (stands, names)) (apart (may_treat frugal access) (are_thrifty frugal (own_in k) fs) q.0).0 freely (own stands)
-  next_freely bare may behind among heap values results (FreesIn access c ∷ k) ms alone q freely own =
+  next_freely bare may behind among heap values results (FreesIn access c ∷ k) ms alone beside q freely own =
       λ cell w found there.
       is_freely bare may (IsFreedNext heap values results (FreesIn access c ∷ k)) heap k alone w access
       (λ o names. component_next heap (first_or Null results) c cell w o found there names) q.0 freely (own cell w found there)
-  next_freely bare may behind among heap values results (f ∷ k) ms alone q freely own = tt
+  next_freely bare may behind among heap values results (Assigns t ∷ k) ms alone beside q freely own = beside (assigned_parts frugal (own_in k) t q.0).0
+  next_freely bare may behind among heap values results (f ∷ k) ms alone beside q freely own = tt
 
 -- Where bodies treat no objects with controlled parts, what is freed next has none.
 pub frees_bare : (frugal : Allowance) → frugal.treats_parts ≡ false → (behind : Control) (among : List Value) (mode : Mode) (k : Control) (ms : List Master)

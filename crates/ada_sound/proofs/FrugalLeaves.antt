@@ -14,7 +14,7 @@ use Rattle.ada_meaning.specs.declared.state.Mode.TheVariants.{Running}
 use Rattle.ada_meaning.specs.declared.state.Value.{Value}
 use Rattle.ada_meaning.specs.declared.state.Value.TheVariants.{Null, Names, Scalar, Part}
 use Rattle.ada_meaning.specs.declared.event.Cause.TheVariants.{Leaving}
-use Rattle.ada_meaning.specs.Frame.{Confines, Ends, GivesBack, Leaves, Treatment, Treats}
+use Rattle.ada_meaning.specs.Frame.{Confines, Ends, GivesBack, Leaves, Treatment, Treats, begins, ends}
 use Rattle.ada_meaning.specs.Heap.{Home}
 use Rattle.ada_meaning.specs.Law.{items_of}
 use Rattle.ada_meaning.specs.State.{Owned, declared, collection, record_object, storage_pool, type_housed, Item, Master}
@@ -226,8 +226,11 @@ frugal_stays known frugal back among mode k heap places operands upper lower fru
 pub operated_stays : (ahead : Owned → Bool) (frugal : Allowance) (back : Control) (among : List Value) (v w : Value) (treatment : Treatment) (tasks : List Task) (m item : ℕ) (pool : Option ℕ) (mode : Mode) (k : Control) (upper lower : List Master)
     → FrugalOperated frugal back among (Confines ∷ treating v treatment tasks (Ends v ∷ GivesBack w (Leaving m item) pool ∷ Leaves mode ∷ k)) upper → departs ahead (innermost (upper ++ lower)) ≡ false
 operated_stays ahead frugal back among v w treatment [] m item pool mode k upper lower (vs, is, inl (ending, leads)) = absurd leads.1.1.0
-operated_stays ahead frugal back among v w treatment [] m item pool mode k upper lower (vs, is, inr (ending, leaving)) =
+operated_stays ahead frugal back among v w treatment [] m item pool mode k upper lower (vs, is, inr (inr (ending, q))) = absurd q
+operated_stays ahead frugal back among v w (begins by done) (task ∷ tasks) m item pool mode k upper lower (vs, is, inr (inr (ending, q))) = absurd q.1.1.1.0
+operated_stays ahead frugal back among v w (ends cause) (task ∷ tasks) m item pool mode k upper lower (vs, is, inr (inr (ending, q))) = absurd q.1
+operated_stays ahead frugal back among v w treatment [] m item pool mode k upper lower (vs, is, inr (inl (ending, leaving))) =
     owned_stay frugal ahead (innermost (upper ++ lower)) (leaving_own frugal back vs (Ends v ∷ GivesBack w (Leaving m item) pool ∷ Leaves mode ∷ k) upper lower leaving)
 operated_stays ahead frugal back among v w treatment (task ∷ tasks) m item pool mode k upper lower (vs, is, inl (ending, leads)) = absurd leads.1.1.1.0
-operated_stays ahead frugal back among v w treatment (task ∷ tasks) m item pool mode k upper lower (vs, is, inr (ending, leaving)) =
+operated_stays ahead frugal back among v w treatment (task ∷ tasks) m item pool mode k upper lower (vs, is, inr (inl (ending, leaving))) =
     owned_stay frugal ahead (innermost (upper ++ lower)) (leaving_own frugal back vs (Ends v ∷ GivesBack w (Leaving m item) pool ∷ Leaves mode ∷ k) upper lower leaving.1)

@@ -1,7 +1,8 @@
 -- Any step of a frugal body (7.6, 7.6.1, 13.11.2) in front of its end leads on in it, or in one that it calls (6.4), or to the end of an object that it frees,
 -- or whose master it leaves, or to the beginning of one that it allocates or declares (4.8, 3.3.1).
 
-use Rattle.std.proofs.Common.{◌≡◌, ℕ, suc, Bool, true, false, ◌&&◌, if◌then◌else◌, List, [], ◌∷◌, ◌++◌, length, refl, subst, ◌⊎◌, inl, inr}
+use Rattle.ada_finalized.specs.Law.{NoOperationRunsOn}
+use Rattle.std.proofs.Common.{◌≡◌, ℕ, suc, Bool, true, false, ◌&&◌, if◌then◌else◌, List, [], ◌∷◌, ◌++◌, length, refl, subst, ◌⊎◌, inl, inr, sym, ap, ◌∙◌}
 use Rattle.std.specs.Prelude.{Option, Some, None, drop, not, ◌||◌, ◌==◌}
 use Rattle.ada_owners.proofs.Objects.{next_id}
 use Rattle.std.specs.List.{slice_get, slice_index_or}
@@ -35,7 +36,7 @@ use Rattle.ada_meaning.specs.Event.{Event, Finalized, Quiet}
 use Rattle.ada_meaning.specs.Frame.{Resumes, Assigns, Frame, Treatment, begins, ends, is_return, Elaborates, Does, Decides, Repeats, Turns, Ranges, Counts, Exits, Handles, Closes, Leaves, Calls, Returns, Evaluates, Computes, Follows, TestsNull, Refers, RefersIn, Opens, OpensIn, Continues, Applies, AppliesAlone, Fills, Copies, Creates, Stores, Targets, StoresIn, TargetsRecord, StoresRecord, Receives, FreesIn, Declares, DeclaresRecord, Treats, Awaits, Confines, Writes, Ends, GivesBack, Clears, ClearsIn, handler_landing}
 use Rattle.ada_meaning.specs.Heap.{PartState, Cell, Found, on_null, on_gone, on_other, finds}
 use Rattle.ada_meaning.specs.State.{Activation, Master, home_of}
-use Rattle.ada_meaning.specs.Step.{all_tasks, halts, picks, treating, direction_of, picked_task, treated_on, operation_next, ended_next, finalized_next, performed_next, treats_next, first_or, places_of, operands_of, operand_count, newest_ones, with_operands, frame_next, landed, jump_next, mode_next, born_next, begun_next, beginning}
+use Rattle.ada_meaning.specs.Step.{all_tasks, halts, picks, treating, direction_of, picked_task, treated_on, operation_next, ended_next, finalized_next, performed_next, treats_next, first_or, places_of, operands_of, operand_count, newest_ones, with_operands, frame_next, landed, jump_next, mode_next, born_next, begun_next, beginning, older}
 use Rattle.ada_meaning.specs.Named.{Object, State, Next, named, next, look, lent, finalize}
 use Rattle.ada_quiet.proofs.FrugalAt.{frugal_called}
 use Rattle.ada_quiet.specs.Idle.{holds_parts}
@@ -48,12 +49,12 @@ use Rattle.ada_sound.specs.Agreement.{running_procedure}
 use Rattle.ada_sound.proofs.Calm.{ends_operation}
 use Rattle.ada_sound.proofs.Invariant.{Control}
 use Rattle.ada_sound.proofs.OperationStarts.{apart}
-use Rattle.ada_sound.proofs.FrugalControl.{AreKnown, EndsThere, LeavesThere, IsAdjusted, RecordIsInside, adjusting_frugal, finalizing_frugal, own_in, FrugalLeads, FrugalLeaves, MayLeave, Frugal, is_return_first, none_treated, none_left, treating_leads, treating_leaves, Frugally, GoesFrugally, BeginsThere, FrugalBegins, beginning_frugal, begins_first, leads_first, none_beginning}
+use Rattle.ada_sound.proofs.FrugalControl.{AreKnown, EndsThere, LeavesThere, IsAdjusted, RecordIsInside, adjusting_frugal, finalizing_frugal, own_in, FrugalLeads, FrugalLeaves, MayLeave, Frugal, is_return_first, none_treated, none_left, treating_leads, treating_leaves, Frugally, GoesFrugally, BeginsThere, FrugalBegins, beginning_frugal, begins_first, leads_first, none_beginning, IsReplacing, IsAssigned, copies_first}
 use Rattle.ada_sound.proofs.InsideRecords.{object_inside, performed_inside, record_inside}
 use Rattle.ada_sound.proofs.Standing.{FreesAmong}
 use Rattle.ada_sound.proofs.Steps.{crosses}
 use Rattle.ada_sound.proofs.FreedInside.{IsFreedNext}
-use Rattle.ada_sound.proofs.FrugalFrees.{past_unborn, ObjectIsBare, bare_by, RecordIsBare, records_bare_by, NextFreesOwn, next_own, ListedAlone, FrameIsFreely, NextIsFreely, next_freely, LeftAlone, Unborn, is_newly}
+use Rattle.ada_sound.proofs.FrugalFrees.{past_unborn, ObjectIsBare, bare_by, RecordIsBare, records_bare_by, NextFreesOwn, next_own, ListedAlone, FrameIsFreely, NextIsFreely, next_freely, LeftAlone, Unborn, is_newly, AssignsBeside}
 use Rattle.ada_sound.proofs.FrugalFrames as frames
 use Rattle.ada_sound.proofs.FrugalFrames.{EndsCreated, may_leave}
 
@@ -117,6 +118,10 @@ module _ (frugal : Allowance) (lower : List Master) (behind : Control) (among : 
         | inr copied ↦ let both = and_parts frugal.treats_parts (copies_object frugal t) copied in copied_so t both.0 both.1
       ]
 
+  popped_are : (all : List (Activation Value)) → operands_of (without all) ≡ older (operands_of all)
+  popped_are [] = refl
+  popped_are (a ∷ all) = refl
+
   -- What is left of the body goes on.
   frame_on : (f : Frame Value) (k : Control) (ms : List Master) → (all : List (Activation Value)) → IsInner f k ms → is_treatment f ≡ false → FrameIsFreely frugal tds f k s.heap (places_of all) (operands_of all) → (frugal.objects ≡ true → Unborn s.heap (f ∷ k)) → FrugalLeads frugal behind among (f ∷ k) ms → Fine (frame_next named tds bodies f (now all k ms))
   frame_on (Elaborates ds fs hs) k ms all inner plain freely unborn q = frames.declarations_on frugal lower behind among tds bodies s ms ds fs hs all k unborn q
@@ -175,8 +180,10 @@ module _ (frugal : Allowance) (lower : List Master) (behind : Control) (among : 
   frame_on (StoresRecord o first count) k ms all inner plain freely unborn (thrifty, q) =
       frames.store_record_on frugal lower behind among tds bodies s ms o first count (look s.heap o) all k q
   frame_on (Assigns t) k ms all inner plain freely unborn (may, q) =
-      frames.assigned_on frugal lower behind among tds bodies s ms t (first_or Null (operands_of (without all))) (first_or Null (operands_of all))
-      (named.same (first_or Null (operands_of (without all))) (first_or Null (operands_of all))) records_inside (twice_without all) k may q
+      let target = first_or Null (operands_of (without all)) in
+      let source = first_or Null (operands_of all) in
+      frames.assigned_on frugal lower behind among tds bodies s ms t target source (named.same target source) refl records_inside (twice_without all) k may
+      (λ own unfinalized o place is. freely own unfinalized o place (sym (ap (first_or Null) (popped_are all)) ∙ is)) q
   frame_on (Receives c) k ms all inner plain freely unborn (thrifty, q) =
       frames.receive_on frugal lower behind among tds bodies s ms (first_or Null (operands_of all)) c (look s.heap (first_or Null (operands_of all))) (without all) k q
   frame_on (FreesIn access c) k ms all inner plain freely unborn (thrifty, q) =
@@ -218,6 +225,7 @@ module _ (frugal : Allowance) (lower : List Master) (behind : Control) (among : 
   beginning_on (StoresRecord o first count ∷ k) ms all none q =
       frames.store_begin_on frugal lower behind among tds bodies s ms o first count (look s.heap o) all k q
   beginning_on (Awaits v by done of part tasks ∷ k) ms all none q = frames.awaited_on frugal lower behind among tds bodies s ms v by done of part tasks (look s.heap v) all k q.0 q.1
+  beginning_on (Confines ∷ k) ms all none q = frames.begins_so frugal lower behind among tds bodies s ms _ refl refl q.1
   beginning_on (f ∷ k) ms all none q = absurd q
 
   -- An exception has come out of the beginning of an object, or goes on where one is to begin.
@@ -226,9 +234,10 @@ module _ (frugal : Allowance) (lower : List Master) (behind : Control) (among : 
   breaking_on e (Treats v (begins by done) tasks ∷ k) ms all q = frames.on frugal lower behind among tds bodies s ms _ refl q.1
   breaking_on e (Treats v (ends cause) tasks ∷ k) ms all q = frames.breaks_so frugal lower behind among tds bodies s ms e _ refl refl q.1
   breaking_on e (Copies first t ∷ k) ms all q = frames.breaks_so frugal lower behind among tds bodies s ms e _ refl refl q
-  breaking_on e (StoresRecord o first count ∷ k) ms all (inl q) = frames.breaks_so frugal lower behind among tds bodies s ms e _ refl refl q
+  breaking_on e (StoresRecord o first count ∷ k) ms all (inl (same, q)) = frames.breaks_so frugal lower behind among tds bodies s ms e _ refl refl q
   breaking_on e (StoresRecord o first count ∷ k) ms all (inr q) = frames.on frugal lower behind among tds bodies s ms _ refl q
   breaking_on e (Awaits v by done of part tasks ∷ k) ms all q = frames.broken_on frugal lower behind among tds bodies s ms ends_created e v by done all k q.0 q.1
+  breaking_on e (Confines ∷ k) ms all q = tt
   breaking_on e (f ∷ k) ms all q = absurd q
 
   -- A jump passes what is left of the body, or lands there.
@@ -339,9 +348,10 @@ pub frugal_steps :
     → ListedAlone may (IsFreedNext s.heap (places_of s.activations) (operands_of s.activations) s.control) s.heap s.control)
     → (frugal.objects ≡ true → Unborn s.heap s.control)
     → (frugal.objects ≡ true → s.mode ≡ Running → LeftAlone s.heap s.masters s.control)
+    → (frugal.treats_parts ≡ true → s.mode ≡ Running → AssignsBeside frugal tds s.control (operands_of s.activations))
     → GoesFrugally frugal lower behind among (next tds bodies s)
 unfolding next
-frugal_steps p whole tds bodies frugal bare records_bare records_inside finds_frugal ends_created behind among lower s f inner none typing may frees alone unborn left =
+frugal_steps p whole tds bodies frugal bare records_bare records_inside finds_frugal ends_created behind among lower s f inner none typing may frees alone unborn left beside =
     subst (λ (t : State). GoesFrugally frugal lower behind among (mode_next named tds bodies s.mode t)) state_is
     (mode_on frugal lower behind among tds bodies bare records_bare records_inside finds_frugal ends_created s s.mode s.control f.upper s.activations inner none
     (λ runs. by runs f.frugally (frees runs) (next_own p whole s typing runs)) unborn (λ created runs. subst (λ (ms : List Master). LeftAlone s.heap ms s.control) f.masters (left created runs)) f.frugally)
@@ -350,7 +360,7 @@ frugal_steps p whole tds bodies frugal bare records_bare records_inside finds_fr
         → NextIsFreely frugal tds s.control s.heap (places_of s.activations) (operands_of s.activations)
     by runs (inl q) freely own =
         next_freely frugal tds bare may behind among s.heap (places_of s.activations) (operands_of s.activations) s.control f.upper
-        (λ treats_parts. alone treats_parts runs (leads_first frugal behind among s.control f.upper q)) q freely own
+        (λ treats_parts. alone treats_parts runs (leads_first frugal behind among s.control f.upper q)) (λ treats_parts. beside treats_parts runs) q freely own
     by runs (inr (inl (may', leaving))) freely own = leaving_freely s.control f.upper leaving
       where
         leaving_freely : (k : Control) (ms : List Master) → FrugalLeaves frugal behind among k ms → NextIsFreely frugal tds k s.heap (places_of s.activations) (operands_of s.activations)
@@ -369,6 +379,7 @@ frugal_steps p whole tds bodies frugal bare records_bare records_inside finds_fr
         beginning_freely (Awaits v how done of part tasks ∷ k) ms q = tt
         beginning_freely (Copies first t ∷ k) ms q = tt
         beginning_freely (StoresRecord o first count ∷ k) ms q = tt
+        beginning_freely (Confines ∷ k) ms q = tt
         beginning_freely (g ∷ k) ms q = absurd q
 
     -- The state, by its parts.
@@ -385,13 +396,14 @@ pub frugal_goes :
     → (s.mode ≡ Running → begins_first s.control ≡ false
     → ListedAlone may (IsFreedNext s.heap (places_of s.activations) (operands_of s.activations) s.control) s.heap s.control)
     → Unborn s.heap s.control → (s.mode ≡ Running → LeftAlone s.heap s.masters s.control)
+    → (s.mode ≡ Running → AssignsBeside (allowance_of (program_form program)) program.types.items s.control (operands_of s.activations))
     → GoesFrugally (allowance_of (program_form program)) lower behind among (next program.types.items (body_forms program) s)
-frugal_goes program whole lower behind among s f inner none typing may frees alone unborn left =
+frugal_goes program whole lower behind among s f inner none typing may frees alone unborn left beside =
     let p = program_form program in
     let procedure = running_procedure s in
     frugal_steps (seen_in procedure p) (own_bodies p whole procedure) program.types.items (body_forms program) (allowance_of p) (bare_by program) (records_bare_by program) (record_inside program, object_inside program)
     (λ number b there told. body_thrifty p false b (frugal_called p number b told there)) (λ created. refl) behind among lower s f inner none typing may frees
-    (λ treats_parts. alone) (λ created. unborn) (λ created. left)
+    (λ treats_parts. alone) (λ created. unborn) (λ created. left) (λ treats_parts. beside)
 
 -- Where a record is adjusted of which no Adjust is overridden, none is called; and where one is finalized of which no Finalize is, none of these (7.6).
 abbrev pub CallsNothing : Allowance → List TypeDefinition → Type 0
@@ -419,11 +431,18 @@ inert_performed frugal known tasks inert = (inert.0, inert.1, performed_inside f
 no_tasks_inert : (frugal : Allowance) (known : List Bool) (tasks : List Task) → AreKnown frugal.types known tasks → AreKnown frugal.types known []
 no_tasks_inert frugal known tasks inert = (inert.0, inert.1, tt)
 
--- An object is freed or undone, or its master is left, or it begins, and no operation of it runs behind; and then this is left to do.
+-- A record of an object is assigned to, and no operation of that runs.
+abbrev pub ReplacesThere : (frugal : Allowance) → Value → Cause → Control → Type 0
+ReplacesThere frugal v cause k =
+    IsAssigned cause × (copies_first k ≡ true) × (frugal.treats_parts ≡ true) × (own_in k ≡ true) × IsReplacing v k × NoOperationRunsOn v k
+
+-- An object is freed or undone, or its master is left, or a record of it is assigned to, or it begins, and no operation of it runs behind; and then this is
+-- left to do.
 abbrev pub IsTreated : (frugal : Allowance) → (back : Control) → (among : List Value) → (v : Value) → Control → List Master → Treatment → Type 0
 IsTreated frugal back among v k ms (begins by done) = BeginsThere frugal v by k × FrugalLeads frugal back among k ms
 IsTreated frugal back among v k ms (ends cause) =
-    (EndsThere frugal v (ends cause) k × FrugalLeads frugal back among k ms) ⊎ (LeavesThere frugal v (ends cause) k × FrugalLeaves frugal back among k ms)
+    (EndsThere frugal v (ends cause) k × FrugalLeads frugal back among k ms)
+    ⊎ ((LeavesThere frugal v (ends cause) k × FrugalLeaves frugal back among k ms) ⊎ (ReplacesThere frugal v cause k × FrugalBegins frugal back among k ms))
 
 -- An object is treated next that such a body frees, or whose master it leaves (7.6.1), or that it allocates or declares (4.8, 3.3.1), or a record to which it
 -- assigns: the body of an operation begins, or what is left to do is so behind that.
@@ -609,7 +628,7 @@ treats_frugally frugal lower back among tds bodies s inert_calls inert_picked f 
           refl,
         )
     by_frugal (begins how done) (inr (inl (may, q))) = absurd q.0.0
-    by_frugal (ends cause) (inr (inl (may, q))) = treats_on frugal lower back among tds bodies s (IsTreated frugal back among v k f.upper (ends cause)) v k (inr q) cause so tasks (task_next tasks)
+    by_frugal (ends cause) (inr (inl (may, q))) = treats_on frugal lower back among tds bodies s (IsTreated frugal back among v k f.upper (ends cause)) v k (inr (inl q)) cause so tasks (task_next tasks)
       where
         so : (heap : List Object) (left : List Task) → GoesOrBegins frugal lower back among tds bodies s (IsTreated frugal back among v k f.upper (ends cause)) (record s { heap = heap; control = treating v (ends cause) left k })
         so heap left = inl (
@@ -626,15 +645,28 @@ treats_frugally frugal lower back among tds bodies s inert_calls inert_picked f 
       where
         so : (born : List Part) (left : List Task) → AreKnown frugal.types frugal.unadjusted left → Frugal frugal back among s.mode (treating v (begins how born) left k) f.upper
         so born left inert = rw runs (adjusting_frugal frugal back among v how born left k f.upper (adjusting.0, (adjusting.1.0, inert, adjusting.1.2)) q)
-    by_frugal (ends cause) (inr (inr (may, (ending, q)))) =
-        inert_treats_on frugal lower back among tds bodies s (IsTreated frugal back among v k f.upper (ends cause)) v k inert_calls inert_picked cause so tasks ending.2.2 (task_next tasks) refl
+    by_frugal (ends cause) (inr (inr (may, ((assigns, copies, (treats, own, replacing, inr alone)), q)))) =
+        treats_on frugal lower back among tds bodies s (IsTreated frugal back among v k f.upper (ends cause)) v k
+        (inr (inr ((assigns, copies, treats, own, replacing, alone), q))) cause so tasks (task_next tasks)
+      where
+        so : (heap : List Object) (left : List Task) → GoesOrBegins frugal lower back among tds bodies s (IsTreated frugal back among v k f.upper (ends cause)) (record s { heap = heap; control = treating v (ends cause) left k })
+        so heap left = inl (
+          record {
+            upper = f.upper;
+            masters = f.masters;
+            frugally = rw runs (finalizing_frugal frugal back among v cause left k f.upper (assigns, copies, (treats, own, replacing, inr alone)) q);
+          },
+          refl,
+        )
+    by_frugal (ends cause) (inr (inr (may, ((assigns, copies, (treats, own, replacing, inl known)), q)))) =
+        inert_treats_on frugal lower back among tds bodies s (IsTreated frugal back among v k f.upper (ends cause)) v k inert_calls inert_picked cause so tasks known (task_next tasks) refl
       where
         so : (heap : List Object) (left : List Task) → AreKnown frugal.types frugal.unfinalized left → GoesOrBegins frugal lower back among tds bodies s (IsTreated frugal back among v k f.upper (ends cause)) (record s { heap = heap; control = treating v (ends cause) left k })
         so heap left inert = inl (
           record {
             upper = f.upper;
             masters = f.masters;
-            frugally = rw runs (finalizing_frugal frugal back among v cause left k f.upper (ending.0, ending.1, (ending.2.0, ending.2.1, inert)) q);
+            frugally = rw runs (finalizing_frugal frugal back among v cause left k f.upper (assigns, copies, (treats, own, replacing, inl inert)) q);
           },
           refl,
         )

@@ -1,6 +1,7 @@
 -- What each step rests on: what is known of the program, typing, and what finalization leaves of objects. It holds in each state that a run comes to, and in one
 -- that stands for such a state.
 
+use Rattle.ada_quiet.specs.Frugal.{is_inert, thrift_of}
 use Rattle.std.proofs.Common.{◌≡◌, ℕ, Bool, true, false, List, [], ◌∷◌, ◌&&◌, refl, subst}
 use Rattle.std.specs.Prelude.{ℤ, Some}
 use Rattle.ada_deeds.specs.Implicit.{implicit_of}
@@ -9,7 +10,7 @@ use Rattle.ada_flow.specs.Flow.{ObeysRules}
 use Rattle.ada_program.specs.declared.program.Program.{Program}
 use Rattle.ada_program.specs.Freed.{FreesItsOwn}
 use Rattle.ada_program.specs.ProgramForm.{TypeForm, program_form, body_forms, main_body, seen_in}
-use Rattle.ada_program.specs.WellFormed.{IsWellFormed, is_access}
+use Rattle.ada_program.specs.WellFormed.{IsWellFormed, finalization_of, is_access}
 use Rattle.ada_parts.specs.Part as parts
 use Rattle.ada_parts.specs.Task.{Task}
 use Rattle.ada_meaning.specs.declared.event.Birth.{Birth}
@@ -19,12 +20,15 @@ use Rattle.ada_meaning.specs.declared.event.Halt.TheVariants.{Erroneous}
 use Rattle.ada_meaning.specs.declared.event.Why.TheVariants.{FinalizesTwice}
 use Rattle.ada_meaning.specs.declared.state.Id.{Id}
 use Rattle.ada_meaning.specs.declared.state.Value.{Value}
-use Rattle.ada_meaning.specs.declared.state.Value.TheVariants.{Names}
+use Rattle.ada_meaning.specs.declared.state.Mode.TheVariants.{Running}
+use Rattle.ada_meaning.specs.declared.state.Place.{Place}
+use Rattle.ada_meaning.specs.declared.state.Value.TheVariants.{Names, Null, Part}
+use Rattle.ada_meaning.specs.Step.{first_or, older, operands}
 use Rattle.ada_meaning.specs.Frame as frame
 use Rattle.ada_meaning.specs.Frame.{Treatment, begins, ends}
 use Rattle.ada_meaning.specs.Named.{Object, State, object_at, all_alive}
 use Rattle.ada_meaning.specs.Run.{Event, Run, Halts, first_state}
-use Rattle.ada_assigned.specs.Law.{RunsAlone}
+use Rattle.ada_assigned.specs.Law.{RunsAlone, is_of_operation}
 use Rattle.ada_finalized.proofs.Standing.{AdjustsAlone}
 use Rattle.ada_finalized.specs.Law.{NoOperationRuns, NoOperationRunsOn, NothingBegins}
 use Rattle.ada_meaning.specs.Finalization.{NothingTreated}
@@ -33,6 +37,7 @@ use Rattle.ada_idle.proofs.Unadjusted.{AdjustsNone}
 use Rattle.ada_idle.specs.Law.{adjusts_copy}
 use Rattle.ada_quiet.specs.Apart.{is_tracker, operations_stand_apart}
 use Rattle.ada_quiet.specs.Idle.{copies_parts, makes_parts}
+use Rattle.ada_quiet.specs.Calm.{is_known_calm, unfinalized_types}
 use Rattle.ada_quiet.specs.InUse.{operations_are_in_use}
 use Rattle.ada_scopes.proofs.Runs.{Scoped}
 use Rattle.ada_typed.proofs.Control as typed
@@ -121,6 +126,10 @@ pub record Grounds (program : Program) (s : State) : Type 0 where
   -- so has a record to which the body of an operation assigns, behind which no other one of its object runs
   pub assigned : (v : Value) (number : ℕ) (tasks : List Task) (first t : ℕ) (k : Control) → s.control ≡ frame.Treats v (ends (Assigning number)) tasks ∷ frame.Copies first t ∷ k
       → RunsAlone v k → Halts program s (Erroneous FinalizesTwice) → ⊥
+  -- and where it assigns to one for which an operation may be called, none runs of the object in which that lies
+  pub beside : s.mode ≡ Running → (t : ℕ) (k : Control) → s.control ≡ frame.Assigns t ∷ k → is_of_operation k ≡ true
+      → is_inert (thrift_of (program_form program)) t ≡ false → (o : Id) (place : Place)
+      → first_or Null (older (operands s)) ≡ Part o place → NoOperationRunsOn (Names o) k
   -- where no operation runs, nothing is treated behind what is treated, but a record that is assigned to
   pub untreated_end : NoOperationRuns s.control → (v w : Value) (cause : Cause) (tasks : List Task) (k : Control)
       → s.control ≡ frame.Treats v (ends cause) tasks ∷ frame.Ends w ∷ k → NothingTreated k

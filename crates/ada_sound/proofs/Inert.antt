@@ -22,7 +22,7 @@ inherited_none None inherited = refl
 inherited_none (Some procedure) inherited = absurd (cc inherited)
 
 -- A record that lies in one of a type lies in one with controlled parts.
-inside_some : (types : List TypeForm) (t of : ℕ) → Inside types t of → (f : Finalization) × (finalization_of types t ≡ Some f)
+pub inside_some : (types : List TypeForm) (t of : ℕ) → Inside types t of → (f : Finalization) × (finalization_of types t ≡ Some f)
 inside_some types t _ (itself n is) = by (finalization_of types t) refl is
   where
     by : (o : Option Finalization) → finalization_of types t ≡ o → number_in o ≡ Some n → (f : Finalization) × (finalization_of types t ≡ Some f)

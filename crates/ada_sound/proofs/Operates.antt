@@ -1,6 +1,7 @@
 -- The body of an operation runs that touches Integers and Booleans alone (7.6): no other one is under way, or one that touches storage is, in which the object
 -- is freed, allocated or undone.
 
+use Rattle.ada_meaning.specs.declared.event.Cause.TheVariants.{Leaving, Freeing, Assigning, Undoing}
 use Rattle.std.proofs.Common.{◌≡◌, ℕ, true, List, ◌∷◌, ◌++◌, ◌⊎◌}
 use Rattle.std.specs.Prelude.{Some}
 use Rattle.ada_program.specs.declared.program.Exception.{Exception}
@@ -12,7 +13,7 @@ use Rattle.ada_deeds.specs.Implicit.{implicit_of}
 use Rattle.ada_meaning.specs.declared.state.Id.{Id}
 use Rattle.ada_meaning.specs.declared.state.Value.{Value}
 use Rattle.ada_meaning.specs.declared.state.Value.TheVariants.{Names}
-use Rattle.ada_meaning.specs.Frame.{Treatment}
+use Rattle.ada_meaning.specs.Frame.{Treatment, begins, ends}
 use Rattle.ada_meaning.specs.Named.{Object, State}
 use Rattle.ada_meaning.specs.Run.{Event}
 use Rattle.ada_meaning.specs.State.{Activation, Master}
@@ -23,16 +24,24 @@ use Rattle.ada_sound.specs.Callees.{IsCovered}
 use Rattle.ada_sound.proofs.Alters.{Alters}
 use Rattle.ada_sound.proofs.Bodies.{IsBody}
 use Rattle.ada_sound.proofs.Callers.{AreCalls, Suspension, known_in, Stands}
-use Rattle.ada_sound.proofs.FrugalControl.{IsInside}
+use Rattle.ada_sound.proofs.FrugalControl.{IsInside, IsReplacing}
 use Rattle.ada_sound.proofs.Invariant.{Control, Says, TreatsBy}
 use Rattle.ada_sound.proofs.Operating.{Body, IsCalm, WaitsFor, behind_operation, lets_out}
 use Rattle.ada_sound.proofs.Touching.{Within}
 
+-- Where a record of an object is assigned to, what is copied is stored in it behind that (5.2).
+abbrev pub CopiesInto : Treatment → Value → (after : Control) → Type 0
+CopiesInto (begins by done) v k = Unit {0}
+CopiesInto (ends (Leaving m item)) v k = Unit {0}
+CopiesInto (ends (Freeing number)) v k = Unit {0}
+CopiesInto (ends (Assigning number)) v k = IsReplacing v k
+CopiesInto (ends (Undoing number)) v k = Unit {0}
+
 -- What is around the body of such an operation, by what it is called for, where these activations wait: no operation runs, or one that touches storage is under
 -- way, in which the object is freed, allocated or undone (13.11.2, 4.8, 7.6.1).
-abbrev pub AroundTreated : (program : Program) → Treatment → List Suspension → State → Type 0
-AroundTreated program treatment gs s =
-    (IsCalm (behind_call s.control) × (AreCalls gs)) ⊎ (IsInside treatment × Within program gs s)
+abbrev pub AroundTreated : (program : Program) → Treatment → (object : Id) → (after : Control) → List Suspension → State → Type 0
+AroundTreated program treatment object after gs s =
+    (IsCalm (behind_call s.control) × (AreCalls gs)) ⊎ (IsInside treatment × CopiesInto treatment (Names object) after × Within program gs s)
 
 -- The object that an operation is called for is treated; and what waits for it goes on behind that, whatever the body does.
 pub record Suspended (program : Program) (object : Id) (treatment : Treatment) (caller : Activation Value) (rest : List (Activation Value)) (behind : Control) (lower : List Master) (s : State) : Type 0 where
@@ -43,7 +52,7 @@ pub record Suspended (program : Program) (object : Id) (treatment : Treatment) (
   pub waits : WaitsFor (program_form program).types object of treatment tasks after behind
   pub treats : TreatsBy (known_in program caller.procedure suspensions) (Names object) treatment tasks after s.heap caller.places caller.operands lower
   pub stands : Stands program suspensions (behind_operation (caller ∷ rest) behind lower s)
-  pub around : AroundTreated program treatment suspensions (behind_operation (caller ∷ rest) behind lower s)
+  pub around : AroundTreated program treatment object after suspensions (behind_operation (caller ∷ rest) behind lower s)
 
 -- The body of such an operation runs.
 pub record Operates (program : Program) (s : State) : Type 0 where

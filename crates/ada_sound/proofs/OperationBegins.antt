@@ -179,7 +179,7 @@ module _ (program : Program) (number : ℕ) (b : BodyForm) (there : slice_get (b
   pub operation_begins : (e : Event) (heap : List Object) (x : Object) → object_at heap o ≡ Some x → StaysLive x.stage → Alters s.heap e heap → WaitsFor (program_form program).types o of treatment tasks k behind
       → TreatsBy (known_in program caller.procedure gs) (Names o) treatment tasks k heap caller.places caller.operands s.masters
       → Holds (looking x) (variable_kind b.variables 0) reference → HoldScalars (looking x) x
-      → AroundTreated program treatment gs
+      → AroundTreated program treatment o k gs
       (behind_operation (caller ∷ rest) behind s.masters
       (operating named number b reference behind (record s { activations = caller ∷ rest; heap = heap; mode = Running })))
       → ((e' : Exception) → body_raises no_calls b (is_same e') ≡ true → lets_out (implicit_of (program_form program)) x.cell.access treatment e' ≡ true)
@@ -230,7 +230,7 @@ module _ (program : Program) (number : ℕ) (b : BodyForm) (there : slice_get (b
 -- Where no operation runs behind the treatment, none runs behind the body.
 pub calm_around : (program : Program) (a : Activation Value) (rest : List (Activation Value)) (gs : List Suspension) (s : State) (k : Control) (IsOperated : Treatment → Id → ℕ → Type 0) (e : Event) (after : State)
     → (c : Begins (known_in program a.procedure gs) a rest s program.types.items (body_forms program) k IsOperated e after) → IsCalm (behind_call k) → AreCalls gs
-    → AroundTreated program c.treatment gs (behind_operation (a ∷ rest) c.behind s.masters after)
+    → AroundTreated program c.treatment c.o k gs (behind_operation (a ∷ rest) c.behind s.masters after)
 calm_around program a rest gs s k IsOperated e after c calm settled =
     inl (calm_behind (known_in program a.procedure gs).program.types c.o c.of c.treatment c.tasks k c.behind c.waits calm, settled)
 
@@ -238,7 +238,7 @@ calm_around program a rest gs s k IsOperated e after c calm settled =
 module _ (program : Program) (well : IsWellFormed (program_form program)) (a : Activation Value) (rest : List (Activation Value)) (gs : List Suspension) (s : State) (k : Control) where
   pub begins_operation : (IsOperated : Treatment → Id → ℕ → Type 0) (e : Event) (after : State) → Stands program gs (record s { activations = a ∷ rest })
       → typed.Typed (program_form program) after → (c : Begins (known_in program a.procedure gs) a rest s program.types.items (body_forms program) k IsOperated e after)
-      → AroundTreated program c.treatment gs (behind_operation (a ∷ rest) c.behind s.masters after)
+      → AroundTreated program c.treatment c.o k gs (behind_operation (a ∷ rest) c.behind s.masters after)
       → PlainBody (program_form program).types c.b × LetsNothingOut c.treatment c.b → Operates program after
   begins_operation IsOperated e after stands typing c around (plain, quiet) =
       let begun = operating named c.number c.b (Part c.o c.place) c.behind (record (running k a rest s) { heap = c.heap }) in

@@ -1,7 +1,7 @@
 -- The body of an operation comes to its end (7.6): what waits for it goes on; and an exception that comes out of an Initialize undoes the object (7.6.1), also
 -- inside an operation that touches storage.
 
-use Rattle.std.proofs.Common.{◌≡◌, ℕ, true, List, [], ◌∷◌, refl, inl, inr, subst, sym}
+use Rattle.std.proofs.Common.{◌≡◌, ℕ, true, List, [], ◌∷◌, refl, inl, inr, subst, sym, ap, ◌∙◌}
 use Rattle.std.specs.Prelude.{Some}
 use Rattle.std.specs.List.{slice_set}
 use Rattle.ada_parts.specs.Task.{Task}
@@ -33,7 +33,7 @@ use Rattle.ada_sound.proofs.Waiting.{stands_kept}
 use Rattle.ada_sound.proofs.Written.{treats_written}
 use Rattle.ada_sound.proofs.OperationStarts.{found_by}
 use Rattle.ada_sound.proofs.Operating.{StaysLive, WaitsFor, lets_out, behind_operation}
-use Rattle.ada_sound.proofs.Operates.{AroundTreated, Suspended}
+use Rattle.ada_sound.proofs.Operates.{AroundTreated, CopiesInto, Suspended}
 use Rattle.ada_sound.proofs.Pauses.{BeginsBehind, EndsBehind, GoesOnBehind, OthersStay, raised_within, within_kept}
 use Rattle.ada_sound.proofs.Touching.{Around, Within}
 
@@ -62,22 +62,34 @@ ending_goes known o cause tasks [] behind heap places ms is none = absurd none
 ending_goes known o cause tasks (Ends w ∷ k) behind heap places ms is (same, ending) = record { cause = cause; tasks = tasks; rest = k; is = rw same at is }
 ending_goes known o cause tasks (f ∷ k) behind heap places ms is none = absurd none
 
--- Where an object is freed, undone or left, it ends behind that; where it is allocated or declared, also as a copy, what is left of it begins.
+-- Where an object is freed, undone or left, it ends behind that; where a record of it is assigned to, what is copied is stored in it; and where it is allocated or
+-- declared, also as a copy, or adjusted, what is left of it begins.
 inside_goes :
     (known : Known) (types : List TypeForm) (o : Id) (of : ℕ) (treatment : Treatment) (tasks : List Task) (k behind : Control) (heap : List Object)
-    (places operands : List Value) (ms : List Master) → IsInside treatment
+    (places operands : List Value) (ms : List Master) → IsInside treatment → CopiesInto treatment (Names o) k
     → WaitsFor types o of treatment tasks k behind → TreatsBy known (Names o) treatment tasks k heap places operands ms → GoesOnBehind o behind
-inside_goes known types o of (begins Creation done) tasks k behind heap places operands ms inside (part, is) treats =
-    inr (record { by = Creation; done = done; of = of; part = part; tasks = tasks; rest = k; is = is })
-inside_goes known types o of (begins Copy done) tasks k behind heap places operands ms inside (part, is) treats =
-    inr (record { by = Copy; done = done; of = of; part = part; tasks = tasks; rest = k; is = is })
-inside_goes known types o of (begins (Adjustment number) done) tasks k behind heap places operands ms inside waits treats = absurd inside
-inside_goes known types o of (ends (Leaving m item)) tasks k behind heap places operands ms inside (is, copied) treats =
+inside_goes known types o of (begins Creation done) tasks k behind heap places operands ms inside into (part, is) treats =
+    inr (inl (record { by = Creation; done = done; of = of; part = part; tasks = tasks; rest = k; is = is }))
+inside_goes known types o of (begins Copy done) tasks k behind heap places operands ms inside into (part, is) treats =
+    inr (inl (record { by = Copy; done = done; of = of; part = part; tasks = tasks; rest = k; is = is }))
+inside_goes known types o of (begins (Adjustment number) done) tasks k behind heap places operands ms inside into (part, is) treats =
+    inr (inl (record { by = Adjustment number; done = done; of = of; part = part; tasks = tasks; rest = k; is = is }))
+inside_goes known types o of (ends (Leaving m item)) tasks k behind heap places operands ms inside into (is, copied) treats =
     inl (ending_goes known o (Leaving m item) tasks k behind heap places ms is treats)
-inside_goes known types o of (ends (Freeing number)) tasks k behind heap places operands ms inside (is, copied) treats =
+inside_goes known types o of (ends (Freeing number)) tasks k behind heap places operands ms inside into (is, copied) treats =
     inl (ending_goes known o (Freeing number) tasks k behind heap places ms is treats)
-inside_goes known types o of (ends (Assigning number)) tasks k behind heap places operands ms inside waits treats = elim inside [ inl none ↦ absurd none | inr none ↦ absurd none ]
-inside_goes known types o of (ends (Undoing number)) tasks k behind heap places operands ms inside (is, copied) treats =
+inside_goes known types o of (ends (Assigning number)) tasks k behind heap places operands ms inside into (is, copied) treats =
+    inr (inr (record {
+      number = number;
+      first = into.first;
+      record_type = into.record_type;
+      to = into.to;
+      width = into.width;
+      tasks = tasks;
+      rest = into.rest;
+      is = is ∙ ap (λ (j : Control). Confines ∷ treating (Names o) (ends (Assigning number)) tasks j) into.is;
+    }))
+inside_goes known types o of (ends (Undoing number)) tasks k behind heap places operands ms inside into (is, copied) treats =
     inl (ending_goes known o (Undoing number) tasks k behind heap places ms is treats)
 
 module _ (program : Program) (o : Id) (treatment : Treatment) (caller : Activation Value) (rest : List (Activation Value)) (behind : Control) (lower : List Master) where
@@ -107,14 +119,14 @@ module _ (program : Program) (o : Id) (treatment : Treatment) (caller : Activati
   pub around_behind :
       (s : State) (w : Suspended program o treatment caller rest behind lower s)
       → Around program w.suspensions (behind_operation (caller ∷ rest) behind lower s)
-  around_behind s w = elim w.around [ inl none ↦ inl none | inr (inside, within) ↦ inr within ]
+  around_behind s w = elim w.around [ inl none ↦ inl none | inr (inside, into, within) ↦ inr within ]
 
   -- So it is behind an exception: that comes out of the initialization of a part of a new object alone, which is undone then.
   pub around_raising :
       (s : State) (access : ℕ) (e : Exception) → lets_out (implicit_of (program_form program)) access treatment e ≡ true
       → (w : Suspended program o treatment caller rest behind lower s)
       → Around program w.suspensions (record (behind_operation (caller ∷ rest) behind lower s) { mode = Raising e })
-  around_raising s access e out w = elim w.around [ inl none ↦ inl none | inr (inside, within) ↦ inr (by treatment w.waits out within) ]
+  around_raising s access e out w = elim w.around [ inl none ↦ inl none | inr (inside, into, within) ↦ inr (by treatment w.waits out within) ]
     where
       by : (way : Treatment) → WaitsFor (program_form program).types o w.of way w.tasks w.after behind → lets_out (implicit_of (program_form program)) access way e ≡ true
           → Within program w.suspensions (behind_operation (caller ∷ rest) behind lower s)
@@ -132,19 +144,19 @@ module _ (program : Program) (o : Id) (treatment : Treatment) (caller : Activati
     abbrev behind_in : State → State
     behind_in t = behind_operation (caller ∷ rest) behind lower t
 
-    ends_next : IsInside treatment → GoesOnBehind o behind
-    ends_next inside =
+    ends_next : IsInside treatment → CopiesInto treatment (Names o) w.after → GoesOnBehind o behind
+    ends_next inside into =
         inside_goes (known_in program caller.procedure w.suspensions) (program_form program).types o w.of treatment w.tasks w.after behind s.heap
-        caller.places caller.operands lower inside w.waits w.treats
+        caller.places caller.operands lower inside into w.waits w.treats
 
     -- One that touches storage is around it then, if one was.
-    around_still : AroundTreated program treatment w.suspensions (behind_in after)
+    around_still : AroundTreated program treatment o w.after w.suspensions (behind_in after)
     around_still = by w.around
       where
-        by : AroundTreated program treatment w.suspensions (behind_in s) → AroundTreated program treatment w.suspensions (behind_in after)
+        by : AroundTreated program treatment o w.after w.suspensions (behind_in s) → AroundTreated program treatment o w.after w.suspensions (behind_in after)
         by (inl none) = inl none
-        by (inr (inside, within)) =
-            inr (inside, within_kept program (behind_in s) (behind_in after) o (ends_next inside) others refl refl w.suspensions Quiet within refl refl alters)
+        by (inr (inside, into, within)) =
+            inr (inside, into, within_kept program (behind_in s) (behind_in after) o (ends_next inside into) others refl refl refl w.suspensions Quiet within refl alters)
 
     -- What waits for it waits still.
     waits_still :

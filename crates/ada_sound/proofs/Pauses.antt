@@ -2,6 +2,7 @@
 -- was, and each activation that waits keeps the operands that it had. Where a part of an object has been finalized that ends behind, or has been begun of one
 -- that begins, what is watched is another object. So it stays where an exception comes out of what begins the part.
 
+use Rattle.ada_meaning.specs.declared.event.Cause.TheVariants.{Assigning}
 use Rattle.std.proofs.Common.{◌≡◌, ◌≢◌, ℕ, zero, suc, false, List, [], ◌∷◌, ◌++◌, length, drop, refl, sym, ap, ◌∙◌, subst, ◌⊎◌, inl, inr, arith}
 use Rattle.std.proofs.Math.Nat.{add-zero}
 use Rattle.std.specs.Prelude.{◌+◌, ◌==◌, Option, Some, None}
@@ -28,7 +29,7 @@ use Rattle.ada_owners.proofs.Objects.{id_is}
 use Rattle.ada_reaching.specs.Apart.{Apart}
 use Rattle.ada_reaching.specs.Law.{GhostsStay}
 use Rattle.ada_reaching.specs.Reaching.{IsReaching, LeftShuns}
-use Rattle.ada_reaching.proofs.Behind.{ends_other, reaching_kept, waiting_kept}
+use Rattle.ada_reaching.proofs.Behind.{assigned_other, ends_other, reaching_kept, waiting_kept}
 use Rattle.ada_tracked.proofs.Lists.{is_apart, is_same}
 use Rattle.ada_sound.proofs.Allowance.{Allowance, allowance_of}
 use Rattle.ada_sound.proofs.FrugalControl.{Frugal}
@@ -162,9 +163,20 @@ pub record BeginsBehind (o : Id) (k : Control) : Type 0 where
   pub rest : Control
   pub is : k ≡ frame.Awaits (Names o) by done of part tasks ∷ rest
 
+-- Or a Finalize of a part of a record of it that is assigned to (5.2).
+pub record AssignsBehind (o : Id) (k : Control) : Type 0 where
+  pub number : ℕ
+  pub first : ℕ
+  pub record_type : ℕ
+  pub to : ℕ
+  pub width : ℕ
+  pub tasks : List Task
+  pub rest : Control
+  pub is : k ≡ frame.Confines ∷ treating (Names o) (ends (Assigning number)) tasks (frame.Copies first record_type ∷ frame.StoresRecord (Names o) to width ∷ rest)
+
 -- What is left of its treatment is next.
 abbrev pub GoesOnBehind : Id → Control → Type 0
-GoesOnBehind o k = EndsBehind o k ⊎ BeginsBehind o k
+GoesOnBehind o k = EndsBehind o k ⊎ (BeginsBehind o k ⊎ AssignsBehind o k)
 
 -- All objects but one stay as they are.
 abbrev pub OthersStay : Id → (before after : List Object) → Type 0
@@ -223,7 +235,7 @@ module _ (program : Program) (s after : State) (active : after.activations ≡ s
 
 -- So it is while no object changes but one whose treatment goes on behind: what is watched is another one.
 module _ (program : Program) (s after : State) (o : Id) (going : GoesOnBehind o s.control) (others : OthersStay o s.heap after.heap)
-    (control : after.control ≡ s.control) (active : after.activations ≡ s.activations) where
+    (control : after.control ≡ s.control) (active : after.activations ≡ s.activations) (mode : after.mode ≡ s.mode) where
   abbrev p : ProgramForm
   p = program_form program
 
@@ -238,7 +250,10 @@ module _ (program : Program) (s after : State) (o : Id) (going : GoesOnBehind o 
         by (inl ending) =
             ends_other p (watches p.types (Some w)) apart (is_watched (Some w)) (is_unnamed p.types (Some w)) behind lower (Names o) ending.cause ending.tasks
             ending.rest (procedure_of s.activations) reaching.upper (older s.activations) (rw ending.is at reaching.control)
-        by (inr begun) =
+        by (inr (inr a)) =
+            assigned_other p (watches p.types (Some w)) apart (is_watched (Some w)) (is_unnamed p.types (Some w)) behind lower (Names o) a.number a.first
+            a.record_type a.to a.width a.tasks a.rest (procedure_of s.activations) reaching.upper (older s.activations) (rw a.is at reaching.control)
+        by (inr (inl begun)) =
             let left : LeftShuns p (watches p.types (Some w)) apart (is_watched (Some w)) (is_unnamed p.types (Some w)) behind lower
             (procedure_of s.activations) (frame.Awaits (Names o) begun.by begun.done begun.of begun.part begun.tasks ∷ begun.rest) reaching.upper
             (older s.activations) =
@@ -255,11 +270,15 @@ module _ (program : Program) (s after : State) (o : Id) (going : GoesOnBehind o 
         by : GoesOnBehind o s.control → IsReaching p (watches p.types (Some w)) apart (is_watched (Some w)) (is_unnamed p.types (Some w)) behind lower after
         by (inl ending) =
             reaching_kept p (watches p.types (Some w)) apart (is_watched (Some w)) (is_unnamed p.types (Some w)) behind lower
-            (treating (Names o) (ends ending.cause) ending.tasks (frame.Ends (Names o) ∷ ending.rest)) s after ending.is control active masters ghosts_stay
+            (treating (Names o) (ends ending.cause) ending.tasks (frame.Ends (Names o) ∷ ending.rest)) s after ending.is control active masters (λ runs. sym mode ∙ runs) ghosts_stay
             reaching
-        by (inr begun) =
+        by (inr (inr a)) =
+            reaching_kept p (watches p.types (Some w)) apart (is_watched (Some w)) (is_unnamed p.types (Some w)) behind lower
+            (treating (Names o) (ends (Assigning a.number)) a.tasks (frame.Copies a.first a.record_type ∷ frame.StoresRecord (Names o) a.to a.width ∷ a.rest))
+            s after a.is control active masters (λ runs. sym mode ∙ runs) ghosts_stay reaching
+        by (inr (inl begun)) =
             waiting_kept p (watches p.types (Some w)) apart (is_watched (Some w)) (is_unnamed p.types (Some w)) behind lower
-            (frame.Awaits (Names o) begun.by begun.done begun.of begun.part begun.tasks) begun.rest s after refl begun.is control active masters ghosts_stay
+            (frame.Awaits (Names o) begun.by begun.done begun.of begun.part begun.tasks) begun.rest s after refl begun.is control active masters (λ runs. sym mode ∙ runs) ghosts_stay
             reaching
 
   watched_on :
@@ -270,9 +289,8 @@ module _ (program : Program) (s after : State) (o : Id) (going : GoesOnBehind o 
       (others w.holder (holder_other w apart behind lower reaching) ∙ found, (apart, are, reaching_still w apart behind lower reaching masters))
 
   pub within_kept :
-      (gs : List Suspension) (e : Event) → Within program gs s → after.mode ≡ s.mode → after.masters ≡ s.masters → Alters s.heap e after.heap
-      → Within program gs after
-  within_kept gs e w mode masters alters = within_by program s after active (watched_on masters) gs e w masters alters (rw (mode, control) w.frugal.frugally)
+      (gs : List Suspension) (e : Event) → Within program gs s → after.masters ≡ s.masters → Alters s.heap e after.heap → Within program gs after
+  within_kept gs e w masters alters = within_by program s after active (watched_on masters) gs e w masters alters (rw (mode, control) w.frugal.frugally)
 
 -- Where the operation has come to its end that begins a part of a new object, frugal bodies go on, too, if an exception has come out of it (7.6).
 raised_frugal :
@@ -300,7 +318,7 @@ module _ (program : Program) (gs : List Suspension) (s : State) (e : Exception) 
           apart,
           are,
           waiting_kept p (watches p.types (Some w)) apart (is_watched (Some w)) (is_unnamed p.types (Some w)) behind lower
-              (frame.Awaits (Names o) begun.by begun.done begun.of begun.part begun.tasks) begun.rest s raised refl begun.is refl refl refl (λ q ghost. refl)
+              (frame.Awaits (Names o) begun.by begun.done begun.of begun.part begun.tasks) begun.rest s raised refl begun.is refl refl refl (λ runs. absurd (cc runs)) (λ q ghost. refl)
               reaching,
         ),
       )

@@ -20,14 +20,14 @@ use Rattle.ada_meaning.specs.declared.state.Mode.{Mode}
 use Rattle.ada_meaning.specs.declared.state.Mode.TheVariants.{Running, Raising}
 use Rattle.ada_meaning.specs.declared.state.Stage.TheVariants.{Existing, Gone}
 use Rattle.ada_meaning.specs.declared.state.Value.{Value}
-use Rattle.ada_meaning.specs.declared.state.Value.TheVariants.{Names}
+use Rattle.ada_meaning.specs.declared.state.Value.TheVariants.{Names, Null}
 use Rattle.ada_meaning.specs.Frame.{Frame, Treatment}
 use Rattle.ada_meaning.specs.Frame as frame
 use Rattle.ada_meaning.specs.Heap.{Cell}
 use Rattle.ada_meaning.specs.Law.{items_of}
 use Rattle.ada_meaning.specs.Named.{Object, State, Next, named, object_at, all_alive, next}
-use Rattle.ada_meaning.specs.State.{Item, Master, Owned}
-use Rattle.ada_meaning.specs.Step.{halts, moves, tells, asks, picks, older, operands_of, procedure_of, treats_next}
+use Rattle.ada_meaning.specs.State.{Item, Master, Owned, Activation}
+use Rattle.ada_meaning.specs.Step.{halts, moves, tells, asks, picks, older, operands_of, procedure_of, treats_next, first_or}
 use Rattle.ada_parts.specs.Task.{Task, next as task_next}
 use Rattle.ada_quiet.specs.Apart.{is_tracker}
 use Rattle.ada_quiet.specs.Idle.{holds_parts}
@@ -50,7 +50,7 @@ use Rattle.ada_sound.proofs.Grounds.{Grounds, IsLeftAlone, IsReached, is_ending,
 use Rattle.ada_sound.proofs.Fits.{Outsiders}
 use Rattle.ada_sound.proofs.Invariant.{Control}
 use Rattle.ada_sound.proofs.Operating.{IsCalm}
-use Rattle.ada_sound.proofs.SeenStates.{departed_ghost, departed_of, real_there, seen_at, seen_cells, seen_control, seen_listed, seen_mode, seen_there}
+use Rattle.ada_sound.proofs.SeenStates.{departed_ghost, departed_of, real_there, seen_at, seen_cells, seen_control, seen_listed, seen_mode, seen_there, seen_activations}
 use Rattle.ada_sound.proofs.Standing.{FinalizesIn, any_type}
 use Rattle.ada_sound.proofs.Stored.{AllOut, HasDeparted}
 
@@ -345,6 +345,9 @@ module _ (program : Program) {types : List ℕ} {item : ℕ} {ghosts : Id → Bo
             grounds.assigned w number tasks first t k here alone
             (halts_so ghosts (next tds bodies s) (next tds bodies v) (Erroneous FinalizesTwice)
             (steps_alike tds bodies none_hidden ghosts s v (untouched w (frame.ends (Assigning number)) tasks (frame.Copies first t ∷ k) here) seen.alike) twice);
+        beside = λ runs t k is own calls o place target.
+            grounds.beside (sym (seen_mode seen) ∙ runs) t k (sym (seen_control seen) ∙ is) own calls o place
+            (ap (λ (acts : List (Activation Value)). first_or Null (older (operands_of acts))) (sym (seen_activations seen)) ∙ target);
         untreated_end = λ still w u cause tasks k is. grounds.untreated_end (subst NoOperationRuns (seen_control seen) still) w u cause tasks k (sym (seen_control seen) ∙ is);
         untreated_start = λ still w by done tasks k is. grounds.untreated_start (subst NoOperationRuns (seen_control seen) still) w by done tasks k (sym (seen_control seen) ∙ is);
         adjusts_alone = λ still w cause tasks first t k is. grounds.adjusts_alone (subst NoOperationRuns (seen_control seen) still) w cause tasks first t k (sym (seen_control seen) ∙ is);

@@ -17,7 +17,7 @@ use Rattle.ada_quiet.specs.Bare.{has_bare_objects}
 use Rattle.ada_quiet.specs.Idle.{has_parts, holds_parts}
 use Rattle.ada_quiet.specs.Apart.{is_bare_item, leave_access}
 use Rattle.ada_quiet.specs.Calm.{is_known_calm, unadjusted_types, unfinalized_types}
-use Rattle.ada_quiet.specs.Frugal.{assigns_at_hand, allocates_frugally, is_bare_initial, is_copied_initial, is_inert, is_unadjusted, is_unadjusted_named, is_unadjusted_initial, thrift_of, frugal_procedures, is_frugal_declaration, are_frugal_declarations, is_frugal_stmt, are_frugal, are_frugal_branches, are_frugal_handlers, is_frugal_body}
+use Rattle.ada_quiet.specs.Frugal.{assigns_at_hand, allocates_frugally, is_bare_initial, is_copied_initial, is_unfinalized, is_unadjusted, is_unadjusted_named, is_unadjusted_initial, thrift_of, frugal_procedures, is_frugal_declaration, are_frugal_declarations, is_frugal_stmt, are_frugal, are_frugal_branches, are_frugal_handlers, is_frugal_body, is_inert, is_copied}
 use Rattle.ada_deeds.specs.declared.deed.Callee.{Callee}
 use Rattle.ada_deeds.specs.declared.deed.Callee.TheVariants as callee
 use Rattle.ada_deeds.specs.declared.deed.Deed.{Deed}
@@ -163,11 +163,14 @@ module _ (p : ProgramForm) (shuns : ℕ → Bool) where
   abbrev pub StartsSpared : Apart → Type 0
   StartsSpared apart = (t : ℕ) → Spares p shuns (λ d. creation_does (does_by p d) (record_at p.types t)) → apart.starts t ≡ true
 
-  -- and records of each type may end to which others are assigned that overrides no Finalize, and get their values from others, if it overrides no Adjust.
-  abbrev pub AssignsInert : Apart → Type 0
-  AssignsInert apart =
-      (t : ℕ) → (is_known_calm (unfinalized_types p.types) (finalization_of p.types t) ≡ true → apart.assigns t ≡ true)
-      × (is_known_calm (unadjusted_types p.types) (finalization_of p.types t) ≡ true → apart.copies t ≡ true)
+  -- records of each type may end to which others are assigned, where their end is no use,
+  abbrev pub AssignsSpared : Apart → Type 0
+  AssignsSpared apart =
+      (t : ℕ) (f : Finalization) → finalization_of p.types t ≡ Some f → Spares p shuns (λ d. parts_do (does_by p d) Finalize (Some t)) → apart.assigns t ≡ true
+
+  -- and those of each type may get their values from others, if it overrides no Adjust.
+  abbrev pub CopiesInert : Apart → Type 0
+  CopiesInert apart = (t : ℕ) → is_known_calm (unadjusted_types p.types) (finalization_of p.types t) ≡ true → apart.copies t ≡ true
 
   -- Those of each type may get their values from others whose adjustment is no use, where no Adjust tracks.
   abbrev pub CopiesSpared : Apart → Type 0
@@ -176,7 +179,7 @@ module _ (p : ProgramForm) (shuns : ℕ → Bool) where
 
   -- So it is with those that a body of a well-formed program goes by.
   module _
-      (apart : Apart) (marked : CallsFrugal apart) (ended : EndsSpared apart) (started : StartsSpared apart) (quietly : AssignsInert apart) (copied : CopiesSpared apart)
+      (apart : Apart) (marked : CallsFrugal apart) (ended : EndsSpared apart) (started : StartsSpared apart) (overwritten : AssignsSpared apart) (quietly : CopiesInert apart) (copied : CopiesSpared apart)
       (types_fit : list_all (type_fits p.types) p.types ≡ true) (variables : List VariableForm)
       (variables_fit : list_all (variable_fits p.types) variables ≡ true) (texts exceptions : List (List ℕ)) (callable : List Profile) where
     -- What a value names may be freed, where its end is no use.
@@ -211,7 +214,7 @@ module _ (p : ProgramForm) (shuns : ℕ → Bool) where
     -- Records of a type that is known to override no Adjust may get their values from others.
     named_shaped : (o : Option ℕ) → is_unadjusted_named (thrift_of p) o ≡ true → may_copy_named apart o ≡ true
     named_shaped None is = absurd (cc is)
-    named_shaped (Some t) is = (quietly t).1 is
+    named_shaped (Some t) is = quietly t is
 
     -- A record that is the one item of a copy of its type is adjusted so (4.3.1, 7.6).
     copy_spares :
@@ -373,7 +376,7 @@ module _ (p : ProgramForm) (shuns : ℕ → Bool) where
           (all_so test (item_shaped p.types apart variables) items))
           (assigned (finalization_of p.types target.record_type) refl frugal)
         where
-          -- A record is of a type without controlled parts, or of an inert one, which may be assigned to as a whole.
+          -- A record is of a type without controlled parts, or of one for which no Adjust is called, and whose end is no use.
           assigned :
               (f : Option Finalization) → finalization_of p.types target.record_type ≡ f
               → (if is_some f then assigns_at_hand (thrift_of p) target else list_all (is_bare_item p.types) items) ≡ true
@@ -381,13 +384,20 @@ module _ (p : ProgramForm) (shuns : ℕ → Bool) where
           assigned None is h = refl
           assigned (Some f) is h =
               let t = target.record_type in
-              let calm = is_inert (thrift_of p) t in
+              let known = is_copied (thrift_of p) t in
               let near = not (record_path_raises target) in
-              let three = and_parts (true && calm && near) (not (target.object.root == 0 && target.part == 0)) h in
-              let two = and_parts (true && calm) near three.0 in
-              let unfinalized = is_known_calm (unfinalized_types p.types) (finalization_of p.types t) in
-              let both = and_parts unfinalized (is_unadjusted (thrift_of p) t) (and_parts true calm two.0).1 in
-              and_from (apart.assigns t) (apart.copies t) ((quietly t).0 both.0) ((quietly t).1 both.1)
+              let three =
+              and_parts (true && known && near) (not (target.object.root == 0) || (is_inert (thrift_of p) t && not (target.part == 0))) h in
+              let two = and_parts (true && known) near three.0 in
+              let adjusted = λ (d : Deed). parts_do (does_by p d) Adjust (Some t) in
+              let ended_so = λ (d : Deed). parts_do (does_by p d) Finalize (Some t) in
+              let evaluated = λ (d : Deed). record_path_does p.types variables d target || items_do p.types variables (does_by p d) d items in
+              and_from (apart.assigns t) (apart.copies t)
+              (overwritten t f is (second adjusted ended_so (second evaluated (λ d. adjusted d || ended_so d) spares)))
+              (elim (or_cases (leave_access p.types) (is_unadjusted (thrift_of p) t) (and_parts true known two.0).1) [
+                | inl none ↦ copied none t (first adjusted ended_so (second evaluated (λ d. adjusted d || ended_so d) spares))
+                | inr calm ↦ quietly t calm
+              ])
       statement_shaped inside (frees access path) fits frugal spares =
           let leads = path_shuns p.types (λ t. false) apart variables path in
           let kind = path_kind p.types variables path in
@@ -493,13 +503,13 @@ module _ (p : ProgramForm) (shuns : ℕ → Bool) where
 
   -- So has such a body, as the program that it sees fits.
   pub body_shaped :
-      (apart : Apart) → CallsFrugal apart → EndsSpared apart → StartsSpared apart → AssignsInert apart → CopiesSpared apart → (number : ℕ) (b : BodyForm) → SeenFits (seen_by number b p)
+      (apart : Apart) → CallsFrugal apart → EndsSpared apart → StartsSpared apart → AssignsSpared apart → CopiesInert apart → CopiesSpared apart → (number : ℕ) (b : BodyForm) → SeenFits (seen_by number b p)
       → is_frugal_body (thrift_of p) b ≡ true → Spares p shuns (λ d. body_does p.types (does_by p d) d b) → body_shuns p.types (λ t. false) apart b ≡ true
-  body_shaped apart marked ended started quietly copied number b fits =
+  body_shaped apart marked ended started overwritten quietly copied number b fits =
       let callable = callable_in (seen_by number b p) in
-      master_shaped apart marked ended started quietly copied fits.types_fit b.variables fits.variables_fit p.texts p.exceptions callable b.declarations b.statements
+      master_shaped apart marked ended started overwritten quietly copied fits.types_fit b.variables fits.variables_fit p.texts p.exceptions callable b.declarations b.statements
       b.handlers fits.initials_fit
-      (statements_shaped apart marked ended started quietly copied fits.types_fit b.variables fits.variables_fit p.texts p.exceptions callable false b.statements
+      (statements_shaped apart marked ended started overwritten quietly copied fits.types_fit b.variables fits.variables_fit p.texts p.exceptions callable false b.statements
       fits.statements_fit)
-      (handlers_shaped apart marked ended started quietly copied fits.types_fit b.variables fits.variables_fit p.texts p.exceptions callable false b.handlers
+      (handlers_shaped apart marked ended started overwritten quietly copied fits.types_fit b.variables fits.variables_fit p.texts p.exceptions callable false b.handlers
       fits.handlers_fit)

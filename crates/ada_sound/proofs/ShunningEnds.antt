@@ -1,6 +1,9 @@
 -- The body of a Finalize shuns access types (3.10) that the end of an object does not reach, in which such a part lies (7.6, 7.6.1): where the body is
 -- frugal, it follows and frees no value of these types (4.1, 13.11.2), and neither do what it calls and the operations of what it frees, allocates and declares.
 
+use Rattle.ada_sound.proofs.InsideRecords.{Inside, TasksInside, record_inside, picked_inside, performed_inside}
+use Rattle.ada_sound.proofs.Inert.{inside_some}
+use Rattle.ada_sound.proofs.AssignedParts.{done_inside, own_record}
 use Rattle.std.proofs.Common.{◌≡◌, ℕ, zero, suc, ◌<◌, Bool, true, false, not, ◌==◌, ◌&&◌, ◌||◌, List, [], ◌∷◌, length, Option, Some, None, refl, sym, ap, ◌∙◌, subst, arith, inl, inr}
 use Rattle.std.specs.Prelude.{nat_lt}
 use Rattle.std.specs.List.{slice_get, slice_index_or}
@@ -34,7 +37,7 @@ use Rattle.ada_deeds.specs.Forms.{body_does, creation_does, overriding, parts_do
 use Rattle.ada_deeds.specs.Implicit.{implicit_of, record_at}
 use Rattle.ada_deeds.specs.Within.{does_within, callee_count, does_by}
 use Rattle.ada_deeds.proofs.Within.{counts_are_enough}
-use Rattle.ada_reaching.specs.Apart.{Apart, CallsApart, IsBegunIn, IsLeftIn, IsLeftOf, whole, picked, called}
+use Rattle.ada_reaching.specs.Apart.{Apart, CallsApart, IsBegunIn, IsLeftOf, whole, picked, called, IsLeftIn, whole_in, picked_in, called_in}
 use Rattle.ada_reaching.specs.Forms.{body_shuns}
 use Rattle.ada_reaching.specs.Law.{AreApart}
 use Rattle.ada_reaching.specs.Deeds.{AreShaped, UseNone}
@@ -47,7 +50,7 @@ use Rattle.ada_sound.proofs.FrugalUseEnds.{done_lying}
 use Rattle.ada_sound.proofs.LeftSpares.{left_spares}
 use Rattle.ada_sound.proofs.Operating.{IsCalled}
 use Rattle.ada_sound.proofs.QuietOperations.{AdjustsCopy, IsUsedAs, adjusts_frugally, used_as}
-use Rattle.ada_sound.proofs.Shunning.{AssignsInert, CallsFrugal, CopiesSpared, EndsSpared, Spares, StartsSpared, body_shaped, calling, first, following, freeing, is_use, second}
+use Rattle.ada_sound.proofs.Shunning.{AssignsSpared, CopiesInert, CallsFrugal, CopiesSpared, EndsSpared, Spares, StartsSpared, body_shaped, calling, first, following, freeing, is_use, second}
 
 -- A body is frugal, where there is one.
 abbrev is_frugal_one : ProgramForm → Option BodyForm → Bool
@@ -95,14 +98,14 @@ start_reaches p t u =
 abbrev adjust_reaches : ProgramForm → (t access : ℕ) → Bool
 adjust_reaches p t u = parts_do (does_by p (freeing u)) Adjust (Some t) || parts_do (does_by p (following u)) Adjust (Some t)
 
--- These procedures; the types of which the end of an object does neither; those of which the start of an object does neither; the record types that override no
--- Finalize; and those that override no Adjust, or whose adjustment does neither, where no Adjust tracks.
+-- These procedures; the types of which the end of an object does neither; those of which the start of an object does neither; the record types of which the end
+-- of a record does neither; and those that override no Adjust, or whose adjustment does neither, where no Adjust tracks.
 abbrev apart_from : Program → (shuns : ℕ → Bool) → Apart
 apart_from program shuns = record {
   calls = is_shunning (program_form program) shuns;
   ends = λ t. none_of (program_form program) shuns (λ u. (implicit_of (program_form program)).end_reaches t u);
   starts = λ t. none_of (program_form program) shuns (λ u. start_reaches (program_form program) t u);
-  assigns = λ t. is_known_calm (unfinalized_types (program_form program).types) (finalization_of (program_form program).types t);
+  assigns = λ t. none_of (program_form program) shuns (λ u. (implicit_of (program_form program)).end_reaches t u);
   copies = λ t.
       is_known_calm (unadjusted_types (program_form program).types) (finalization_of (program_form program).types t)
       || (leave_access (program_form program).types && none_of (program_form program) shuns (λ u. adjust_reaches (program_form program) t u));
@@ -142,6 +145,13 @@ module _ (program : Program) (direction : Direction) (access : ℕ) where
   left_lies whole = all_lie
   left_lies (picked {tasks = tasks} i left) = picked_lies tasks i (left_lies left)
   left_lies (called {tasks = tasks} left) = performed_lies tasks (left_lies left)
+
+-- What is left of the finalization of a record to which another one is assigned speaks of records that lie in it (5.2).
+left_inside :
+    (program : Program) (t : ℕ) {tasks : List Task} → IsLeftIn program.types.items WholeFirst t tasks → TasksInside (program_form program).types t tasks
+left_inside program t (whole_in first) = record_inside program t WholeFirst first
+left_inside program t (picked_in {tasks = tasks} i left) = picked_inside program t WholeFirst tasks i (left_inside program t left)
+left_inside program t (called_in {tasks = tasks} left) = performed_inside (program_form program).types t tasks (left_inside program t left)
 
 -- A part lies in an object, to which the initialization of the object comes (7.6).
 begun_lies : (program : Program) (access of part : ℕ) → IsBegunIn program.types.items access of part → IsOperable (program_form program).types access of part
@@ -351,6 +361,24 @@ module _ (program : Program) (well : IsWellFormed (program_form program)) (uses 
               (λ u is there. ((frees u is there).1, (follows u is there).1)),
         )
 
+    -- So is a Finalize of a part of a record to which another one is assigned, where the end of such a record does not reach the types (5.2).
+    overwrite_shuns :
+        (t of number : ℕ) → Inside p.types t of → procedure_number (operations_of program.types.items of).finalize ≡ Some number
+        → none_of p shuns (λ u. (implicit_of p).end_reaches t u) ≡ true → apart.calls number ≡ true
+    overwrite_shuns t of number inside overrides reaches =
+        let ended = λ (d : Deed). parts_do (does_by p d) Finalize (record_at p.types t) in
+        let f = inside_some p.types t of inside in
+        let spared = λ (d : Deed) (none : ended d ≡ false).
+        false_from_ne_true (does_by p d (calling number)) (λ done.
+        let all = done_inside program well d Finalize t of number inside overrides ((counts_are_enough p d (calling number)).0 done) in
+        let told : ended d ≡ true =
+        ap (parts_do (does_by p d) Finalize) (own_record t (slice_get p.types t) f.0 f.1)
+        ∙ (counts_are_enough p d (callee.Parts Finalize (record { 0 = t }))).1 all in
+        cc (none, told)) in
+        shunning_from p shuns number (finalize_frugal of number overrides) (λ u is there.
+        let two = or_parts (ended (freeing u)) (ended (following u)) (none_at p shuns (λ v. (implicit_of p).end_reaches t v) reaches u is there) in
+        (spared (freeing u) two.0, spared (following u) two.1))
+
     -- So is an Adjust, where none tracks, and the adjustment of the record does not reach the types.
     adjust_shuns :
         (record_type of part number : ℕ) (tasks : List Task) → apart.copies record_type ≡ true
@@ -382,7 +410,8 @@ module _ (program : Program) (well : IsWellFormed (program_form program)) (uses 
           (start_shuns access of part number (begun_lies program access of part begun) may).0 overrides;
       undoes = λ access of part number may begun overrides.
           (start_shuns access of part number (begun_lies program access of part begun) may).1 overrides;
-      assigns_quietly = λ record_type of part tasks may left. unfinalized_calls_nothing program well record_type of part tasks may left;
+      overwrites = λ record_type of part number tasks may left overrides.
+          overwrite_shuns record_type of number (left_inside program record_type left).0 overrides may;
       adjusts = λ record_type of part number tasks may left overrides. adjust_shuns record_type of part number tasks may left overrides;
     }
 
@@ -421,11 +450,16 @@ module _ (program : Program) (well : IsWellFormed (program_form program)) (uses 
     starts_spared : StartsSpared p shuns apart
     starts_spared t spares = start_spares p shuns t spares
 
-    -- Records of each type may end to which others are assigned that overrides no Finalize, and get their values from others, if it overrides no Adjust,
-    assigns_inert : AssignsInert p shuns apart
-    assigns_inert t =
-        let unadjusted = is_known_calm (unadjusted_types p.types) (finalization_of p.types t) in
-        (λ known. known, λ known. or_left unadjusted (leave_access p.types && none_of p shuns (λ u. adjust_reaches p t u)) known)
+    -- So is each record type of which the end of a record is none,
+    assigns_spared : AssignsSpared p shuns apart
+    assigns_spared t f is spares =
+        end_spares p shuns t
+        (subst (λ (o : Option ℕ). Spares p shuns (λ d. parts_do (does_by p d) Finalize o)) (sym (own_record t (slice_get p.types t) f is)) spares)
+
+    -- and those of each type may get their values from others, if it overrides no Adjust,
+    copies_inert : CopiesInert p shuns apart
+    copies_inert t known =
+        or_left (is_known_calm (unadjusted_types p.types) (finalization_of p.types t)) (leave_access p.types && none_of p shuns (λ u. adjust_reaches p t u)) known
 
     -- or if the adjustment is no use, where none tracks.
     copies_spared : CopiesSpared p shuns apart
@@ -441,7 +475,7 @@ module _ (program : Program) (well : IsWellFormed (program_form program)) (uses 
       bodies = λ n b among there.
           let fits : SeenFits (seen_by n b p) = subst (λ (own : ProgramForm). SeenFits own) (seen_as p n b there) (seen_fits p well (Some n)) in
           let frugal = subst (λ (found : Option BodyForm). is_frugal_one p found ≡ true) there (shunning_parts p shuns n among).0 in
-          body_shaped p shuns apart calls_frugal ends_spared starts_spared assigns_inert copies_spared n b fits frugal
+          body_shaped p shuns apart calls_frugal ends_spared starts_spared assigns_spared copies_inert copies_spared n b fits frugal
           (body_spares p shuns n b there (uses_none n among));
       operations = operations_apart;
     }

@@ -90,7 +90,7 @@ are_bare program shuns = record {
         absurd (cc (none));
     initializes = λ access of part number may begun overrides. absurd (cc);
     undoes = λ access of part number may begun overrides. absurd (cc);
-    assigns_quietly = λ record_type of part tasks may left. absurd (cc);
+    overwrites = λ record_type of part number tasks may left overrides. absurd (cc);
     adjusts = λ record_type of part number tasks may left overrides. absurd (cc);
   };
 }

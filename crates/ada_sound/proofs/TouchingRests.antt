@@ -41,7 +41,6 @@ use Rattle.ada_sound.proofs.NoneHidden.{set_itself}
 use Rattle.ada_sound.proofs.Objects.{set_twice}
 use Rattle.ada_sound.proofs.Items.{Counted, HasItem, Houses, newest_is}
 use Rattle.ada_sound.proofs.Stored.{IsUnder, Stored}
-use Rattle.ada_finalized.proofs.Standing.{AdjustsAlone}
 use Rattle.ada_meaning.specs.Heap.{Home}
 use Rattle.ada_finalized.specs.Law.{NothingBegins}
 use Rattle.ada_meaning.specs.Step.{first_or, treating}
@@ -115,6 +114,13 @@ stored_again heap p x c v found at =
 pub named_there : (known : Known) (heap : List Object) (places : List Value) {spared : Id → Bool} (holds : Holds) → Fit known.program.types known.program.variables (outers known) spared heap places holds
     → (y : ℕ) (p : Id) → IsRelied (hold_at holds y) → place_at places y ≡ Names p → IsThere heap p
 named_there known heap places holds fit y p relied names = there_by heap _ p (relied_says heap (hold_at holds y) _ p relied (fit.owners.fit.relied (variable y) p names))
+
+-- Components are stored in a record of an object next (5.2).
+pub record IsStoredIn (v : Value) (k : Control) : Type 0 where
+  pub to : ℕ
+  pub width : ℕ
+  pub rest : Control
+  pub is : k ≡ StoresRecord v to width ∷ rest
 
 -- What is there lies in these masters, where what has departed has an operation around it.
 module _ (known : Known) (heap : List Object) (places : List Value) (masters : List Master) {under : List Id} (stored : Stored under heap masters) (around : AreAround heap (OneAwaits known.callers)) where
@@ -588,18 +594,15 @@ module _ (known : Known) (o : Id) (x : Object) (heap : List Object) (found : obj
         let one : y ≡ x = cc (at, found) in
         (refl, inr (rw one at adjusted))
 
-    assigned_here : (first t : ℕ) (k : Control) → AdjustsAlone (Names o) k → Around → CopiesBehind known (Copies first t ∷ k) heap places operands masters
+    assigned_here : (first t : ℕ) (k : Control) → IsStoredIn (Names o) k → Around → CopiesBehind known (Copies first t ∷ k) heap places operands masters
         → Enters known (ends (Assigning number)) o x (Copies first t ∷ k) heap places operands masters
     assigned_here first t k alone around (copied, w) = by (first_or Null operands) refl w.rest.0
       where
-        adjusted : o ≡ alone.object
-        adjusted = let named = alone.named in cc named
-
-        k_is : k ≡ StoresRecord (Names o) alone.to alone.width ∷ treating (Names o) (begins (Adjustment alone.number) []) alone.tasks alone.behind
-        k_is = rw (adjusted) (alone.is)
+        k_is : k ≡ StoresRecord (Names o) alone.to alone.width ∷ alone.rest
+        k_is = alone.is
 
         into : StoresInto known o x.cell.access t k w.rooms w.holds
-        into = rw k_is (into_here t alone.to alone.width (treating (Names o) (begins (Adjustment alone.number) []) alone.tasks alone.behind) w.rooms w.holds (rw k_is at w.rest.1))
+        into = rw k_is (into_here t alone.to alone.width alone.rest w.rooms w.holds (rw k_is at w.rest.1))
 
         by : (v : Value) → first_or Null operands ≡ v → LiesIn known heap t v → Enters known (ends (Assigning number)) o x (Copies first t ∷ k) heap places operands masters
         by Null named r = absurd r
@@ -649,7 +652,7 @@ module _ (known : Known) (o : Id) (x : Object) (heap : List Object) (found : obj
               under_low = λ p none. absurd none;
             }
 
-    pub assigns_by : (k : Control) → CopiesBehind known k heap places operands masters → ((first t : ℕ) (rest : Control) → k ≡ Copies first t ∷ rest → AdjustsAlone (Names o) rest)
+    pub assigns_by : (k : Control) → CopiesBehind known k heap places operands masters → ((first t : ℕ) (rest : Control) → k ≡ Copies first t ∷ rest → IsStoredIn (Names o) rest)
         → (departs_next (departs known.ahead (innermost masters)) k ≡ false → Around) → Enters known (ends (Assigning number)) o x k heap places operands masters
     assigns_by [] r alone around = absurd r
     assigns_by (Copies first t ∷ k) r alone around = assigned_here first t k (alone first t k refl) (around refl) r

@@ -51,7 +51,7 @@ use Rattle.ada_scopes.specs.Scopes.{is_innermost}
 use Rattle.ada_sound.proofs.Fits.{IsOwnedAmong, IsOwnedOutside, IsReferred, Outsiders, Reference, referred_behind, referred_first}
 use Rattle.ada_sound.proofs.FreesCovered.{frees_among}
 use Rattle.ada_sound.proofs.Allowance.{Allowance, allowance_of}
-use Rattle.ada_sound.proofs.FrugalControl.{Frugal, FrugalBegins, FrugalLeads, FrugalLeaves, FrugalOperated, IsAssigned, IsInside, begins_first, none_operated, operated_in, own_in, waits_first}
+use Rattle.ada_sound.proofs.FrugalControl.{Frugal, FrugalBegins, FrugalLeads, FrugalLeaves, FrugalOperated, IsAssigned, begins_first, none_operated, operated_in, own_in, waits_first, replaced_in, replacing_in, IsEnded, IsLeft}
 use Rattle.ada_sound.proofs.FrugalFrees.{LeftAlone}
 use Rattle.ada_sound.proofs.Leavings.{NamedBelow}
 use Rattle.ada_sound.proofs.Grounds.{Grounds, may_free}
@@ -118,13 +118,31 @@ module _ (frugal : Allowance) where
     operated_begin v behind among [] ms apart none q = absurd q
     operated_begin v behind among (frame.Confines ∷ k) ms apart none (vs, is, inl (ending, q)) =
         leads_begin v behind vs k ms (λ later. apart (subst (IsAmong v) (sym is) (inr later))) none q
-    operated_begin v behind among (frame.Confines ∷ k) ms apart none (vs, is, inr (ending, q)) =
+    operated_begin v behind among (frame.Confines ∷ k) ms apart none (vs, is, inr (inr (ending, q))) =
+        replaces_begin v behind vs k ms (λ same. apart (subst (IsAmong v) (sym is) (inl (same ∙ ending.1)))) (λ later. apart (subst (IsAmong v) (sym is) (inr later))) none q
+    operated_begin v behind among (frame.Confines ∷ k) ms apart none (vs, is, inr (inl (ending, q))) =
         leaves_begin v behind vs k ms (λ later. apart (subst (IsAmong v) (sym is) (inr later))) none q
     operated_begin v behind among (frame.Awaits w by done of part tasks ∷ k) ms apart none (vs, is, beginning, q) = (
       (λ same. apart (subst (IsAmong v) (sym is) (inl (sym same)))),
       leads_begin v behind vs k ms (λ later. apart (subst (IsAmong v) (sym is) (inr later))) none q,
     )
     operated_begin v behind among (f ∷ k) ms apart none q = absurd q
+
+    -- And where a record of another object is assigned to.
+    replaces_begin :
+        (v : Value) (behind : Control) (among : List Value) (k : Control) (ms : List Master) → (v ≡ replaced_in k → ⊥) → (IsAmong v among → ⊥) → NothingBegins v behind
+        → FrugalBegins frugal behind among k ms → NothingBegins v k
+    replaces_begin v behind among [] ms other apart none q = absurd q
+    replaces_begin v behind among (frame.Treats w (begins by done) tasks ∷ k) ms other apart none q = ((λ same. other (sym same)), leads_begin v behind among k ms apart none q.1)
+    replaces_begin v behind among (frame.Treats w (ends cause) tasks ∷ k) ms other apart none q =
+        replaces_begin v behind among k ms (λ same. other (same ∙ replacing_in w k q.0.2.2)) apart none q.1
+    replaces_begin v behind among (frame.Awaits w by done of part tasks ∷ k) ms other apart none q = ((λ same. other (sym same)), leads_begin v behind among k ms apart none q.1)
+    replaces_begin v behind among (frame.Copies first t ∷ k) ms other apart none q = replaces_begin v behind among k ms other apart none q
+    replaces_begin v behind among (frame.StoresRecord w first count ∷ k) ms other apart none (inl (same, q)) =
+        replaces_begin v behind among k ms (λ is. other (is ∙ same)) apart none q
+    replaces_begin v behind among (frame.StoresRecord w first count ∷ k) ms other apart none (inr q) = leads_begin v behind among k ms apart none q
+    replaces_begin v behind among (frame.Confines ∷ k) ms other apart none q = replaces_begin v behind among k ms other apart none q.1
+    replaces_begin v behind among (f ∷ k) ms other apart none q = absurd q
 
   -- So it is where a record is assigned to, of which nothing is adjusted.
   begins_begin :
@@ -135,8 +153,9 @@ module _ (frugal : Allowance) where
   begins_begin v behind among (frame.Treats w (ends cause) tasks ∷ k) ms other apart none q = begins_begin v behind among k ms other apart none q.1
   begins_begin v behind among (frame.Awaits w by done of part tasks ∷ k) ms other apart none q = absurd (cc other)
   begins_begin v behind among (frame.Copies first t ∷ k) ms other apart none q = begins_begin v behind among k ms other apart none q
-  begins_begin v behind among (frame.StoresRecord w first count ∷ k) ms other apart none (inl q) = begins_begin v behind among k ms other apart none q
+  begins_begin v behind among (frame.StoresRecord w first count ∷ k) ms other apart none (inl (same, q)) = begins_begin v behind among k ms other apart none q
   begins_begin v behind among (frame.StoresRecord w first count ∷ k) ms other apart none (inr q) = leads_begin v behind among k ms apart none q
+  begins_begin v behind among (frame.Confines ∷ k) ms other apart none q = begins_begin v behind among k ms other apart none q.1
   begins_begin v behind among (f ∷ k) ms other apart none q = absurd q
 
   frugal_begin :
@@ -184,9 +203,23 @@ module _ (frugal : Allowance) where
         → FrugalOperated frugal behind among k ms → NoOperationRunsOn v behind
     operated_alone v behind among [] ms none q = absurd q
     operated_alone v behind among (frame.Confines ∷ k) ms none (vs, is, inl (ending, q)) = leads_alone v behind vs k ms none.1 q
-    operated_alone v behind among (frame.Confines ∷ k) ms none (vs, is, inr (ending, q)) = leaves_alone v behind vs k ms none.1 q
+    operated_alone v behind among (frame.Confines ∷ k) ms none (vs, is, inr (inl (ending, q))) = leaves_alone v behind vs k ms none.1 q
+    operated_alone v behind among (frame.Confines ∷ k) ms none (vs, is, inr (inr (ending, q))) = begins_alone v behind vs k ms none.1 q
     operated_alone v behind among (frame.Awaits w by done of part tasks ∷ k) ms none (vs, is, beginning, q) = leads_alone v behind vs k ms none.1 q
     operated_alone v behind among (f ∷ k) ms none q = absurd q
+
+    begins_alone :
+        (v : Value) (behind : Control) (among : List Value) (k : Control) (ms : List Master) → NoOperationRunsOn v k → FrugalBegins frugal behind among k ms
+        → NoOperationRunsOn v behind
+    begins_alone v behind among [] ms none q = absurd q
+    begins_alone v behind among (frame.Treats w (begins by done) tasks ∷ k) ms none q = leads_alone v behind among k ms none q.1
+    begins_alone v behind among (frame.Treats w (ends cause) tasks ∷ k) ms none q = begins_alone v behind among k ms none q.1
+    begins_alone v behind among (frame.Awaits w by done of part tasks ∷ k) ms none q = leads_alone v behind among k ms none.1 q.1
+    begins_alone v behind among (frame.Copies first t ∷ k) ms none q = begins_alone v behind among k ms none q
+    begins_alone v behind among (frame.StoresRecord w first count ∷ k) ms none (inl (same, q)) = begins_alone v behind among k ms none q
+    begins_alone v behind among (frame.StoresRecord w first count ∷ k) ms none (inr q) = leads_alone v behind among k ms none q
+    begins_alone v behind among (frame.Confines ∷ k) ms none q = begins_alone v behind among k ms none.1 q.1
+    begins_alone v behind among (f ∷ k) ms none q = absurd q
 
   mutual
     -- An operation runs of each of the objects whose operations run inside.
@@ -227,11 +260,26 @@ module _ (frugal : Allowance) where
     operation_runs v behind among [] ms is q none = q
     operation_runs v behind among (frame.Confines ∷ k) ms is (vs, same, inl (ending, q)) none =
         elim (subst (IsAmong v) same is) [ inl first ↦ none.0 (sym first) | inr later ↦ operated_runs v behind vs k ms later q none.1 ]
-    operation_runs v behind among (frame.Confines ∷ k) ms is (vs, same, inr (ending, q)) none =
+    operation_runs v behind among (frame.Confines ∷ k) ms is (vs, same, inr (inr (ending, q))) none =
+        elim (subst (IsAmong v) same is) [ inl first ↦ none.0 (sym first) | inr later ↦ replacing_runs v behind vs k ms later q none.1 ]
+    operation_runs v behind among (frame.Confines ∷ k) ms is (vs, same, inr (inl (ending, q))) none =
         elim (subst (IsAmong v) same is) [ inl first ↦ none.0 (sym first) | inr later ↦ leaving_runs v behind vs k ms later q none.1 ]
     operation_runs v behind among (frame.Awaits w by done of part tasks ∷ k) ms is (vs, same, beginning, q) none =
         elim (subst (IsAmong v) same is) [ inl first ↦ none.0 (sym first) | inr later ↦ operated_runs v behind vs k ms later q none.1 ]
     operation_runs v behind among (f ∷ k) ms is q none = q
+
+    pub replacing_runs :
+        (v : Value) (behind : Control) (among : List Value) (k : Control) (ms : List Master) → IsAmong v among → FrugalBegins frugal behind among k ms
+        → NoOperationRunsOn v k → ⊥
+    replacing_runs v behind among [] ms is q none = q
+    replacing_runs v behind among (frame.Treats w (begins by done) tasks ∷ k) ms is q none = operated_runs v behind among k ms is q.1 none
+    replacing_runs v behind among (frame.Treats w (ends cause) tasks ∷ k) ms is q none = replacing_runs v behind among k ms is q.1 none
+    replacing_runs v behind among (frame.Awaits w by done of part tasks ∷ k) ms is q none = operated_runs v behind among k ms is q.1 none.1
+    replacing_runs v behind among (frame.Copies first t ∷ k) ms is q none = replacing_runs v behind among k ms is q none
+    replacing_runs v behind among (frame.StoresRecord w first count ∷ k) ms is (inl (same, q)) none = replacing_runs v behind among k ms is q none
+    replacing_runs v behind among (frame.StoresRecord w first count ∷ k) ms is (inr q) none = operated_runs v behind among k ms is q none
+    replacing_runs v behind among (frame.Confines ∷ k) ms is q none = replacing_runs v behind among k ms is q.1 none.1
+    replacing_runs v behind among (f ∷ k) ms is q none = q
 
   -- The object whose operation comes to its end in front of this is none of those whose operations run behind that.
   pub operated_once :
@@ -243,7 +291,12 @@ module _ (frugal : Allowance) where
       let same : vs ≡ ws = cc is in
       operated_runs v behind vs k ms among (subst (λ (us : List Value). FrugalLeads frugal behind us k ms) (sym same) q)
       (subst (λ (w : Value). NoOperationRunsOn w k) one ending.1)
-  operated_once v behind vs (frame.Confines ∷ k) ms first (ws, is, inr (ending, q)) among =
+  operated_once v behind vs (frame.Confines ∷ k) ms first (ws, is, inr (inr (ending, q))) among =
+      let one : finalized_before k ≡ v = cc first in
+      let same : vs ≡ ws = cc is in
+      replacing_runs v behind vs k ms among (subst (λ (us : List Value). FrugalBegins frugal behind us k ms) (sym same) q)
+      (subst (λ (w : Value). NoOperationRunsOn w k) one ending.2)
+  operated_once v behind vs (frame.Confines ∷ k) ms first (ws, is, inr (inl (ending, q))) among =
       let one : finalized_before k ≡ v = cc first in
       let same : vs ≡ ws = cc is in
       leaving_runs v behind vs k ms among (subst (λ (us : List Value). FrugalLeaves frugal behind us k ms) (sym same) q)
@@ -287,9 +340,21 @@ module _ (frugal : Allowance) where
         → NoOperationRuns behind
     operated_calm behind among [] ms none q = absurd q
     operated_calm behind among (frame.Confines ∷ k) ms none (vs, is, inl (ending, q)) = leads_calm behind vs k ms none.1 q
-    operated_calm behind among (frame.Confines ∷ k) ms none (vs, is, inr (ending, q)) = leaves_calm behind vs k ms none.1 q
+    operated_calm behind among (frame.Confines ∷ k) ms none (vs, is, inr (inl (ending, q))) = leaves_calm behind vs k ms none.1 q
+    operated_calm behind among (frame.Confines ∷ k) ms none (vs, is, inr (inr (ending, q))) = begins_calm behind vs k ms none.1 q
     operated_calm behind among (frame.Awaits w by done of part tasks ∷ k) ms none (vs, is, beginning, q) = leads_calm behind vs k ms none.1 q
     operated_calm behind among (f ∷ k) ms none q = absurd q
+
+    begins_calm : (behind : Control) (among : List Value) (k : Control) (ms : List Master) → NoOperationRuns k → FrugalBegins frugal behind among k ms → NoOperationRuns behind
+    begins_calm behind among [] ms none q = absurd q
+    begins_calm behind among (frame.Treats w (begins by done) tasks ∷ k) ms none q = leads_calm behind among k ms none.1 q.1
+    begins_calm behind among (frame.Treats w (ends cause) tasks ∷ k) ms none q = begins_calm behind among k ms none.1 q.1
+    begins_calm behind among (frame.Awaits w by done of part tasks ∷ k) ms none q = leads_calm behind among k ms none.1 q.1
+    begins_calm behind among (frame.Copies first t ∷ k) ms none q = begins_calm behind among k ms none.1 q
+    begins_calm behind among (frame.StoresRecord w first count ∷ k) ms none (inl (same, q)) = begins_calm behind among k ms none.1 q
+    begins_calm behind among (frame.StoresRecord w first count ∷ k) ms none (inr q) = leads_calm behind among k ms none.1 q
+    begins_calm behind among (frame.Confines ∷ k) ms none q = begins_calm behind among k ms none.1 q.1
+    begins_calm behind among (f ∷ k) ms none q = absurd q
 
   pub leads_calm_behind :
       (behind : Control) (among : List Value) (k : Control) (ms : List Master) → IsCalm (behind_call k) → FrugalLeads frugal behind among k ms → NoOperationRuns behind
@@ -325,7 +390,8 @@ module _ (frugal : Allowance) where
   begins_calm_behind behind among (frame.Treats w (ends cause) tasks ∷ k) ms calm q = begins_calm_behind behind among k ms calm q.1
   begins_calm_behind behind among (frame.Awaits w by done of part tasks ∷ k) ms calm q = leads_calm_behind behind among k ms calm q.1
   begins_calm_behind behind among (frame.Copies first t ∷ k) ms calm q = begins_calm_behind behind among k ms calm q
-  begins_calm_behind behind among (frame.StoresRecord w first count ∷ k) ms calm (inl q) = begins_calm_behind behind among k ms calm q
+  begins_calm_behind behind among (frame.Confines ∷ k) ms calm q = begins_calm_behind behind among k ms calm q.1
+  begins_calm_behind behind among (frame.StoresRecord w first count ∷ k) ms calm (inl (same, q)) = begins_calm_behind behind among k ms calm q
   begins_calm_behind behind among (frame.StoresRecord w first count ∷ k) ms calm (inr q) = leads_calm_behind behind among k ms calm q
   begins_calm_behind behind among (f ∷ k) ms calm q = absurd q
 
@@ -347,8 +413,10 @@ module _ (frugal : Allowance) where
   returns_alone v behind among actuals references (frame.Confines ∷ k) ms own (inl q) = λ same. subst (λ (u : Value). NoOperationRunsOn u k) same q.0.1
   returns_alone v behind among actuals references (frame.Confines ∷ k) ms own (inr (vs, is, inl (ending, q))) =
       λ same. subst (λ (u : Value). NoOperationRunsOn u k) same ending.1
-  returns_alone v behind among actuals references (frame.Confines ∷ k) ms own (inr (vs, is, inr (ending, q))) =
+  returns_alone v behind among actuals references (frame.Confines ∷ k) ms own (inr (vs, is, inr (inl (ending, q)))) =
       λ same. subst (λ (u : Value). NoOperationRunsOn u k) same ending.1
+  returns_alone v behind among actuals references (frame.Confines ∷ k) ms own (inr (vs, is, inr (inr (ending, q)))) =
+      λ same. subst (λ (u : Value). NoOperationRunsOn u k) same ending.2
   returns_alone v behind among actuals references (f ∷ k) ms own q = absurd (cc own)
 
   module _ (v : Value) (behind : Control) (outer : (actuals : List ActualForm) (references : List Value) → RunsAlone v (frame.Returns actuals references ∷ behind)) where
@@ -373,7 +441,8 @@ module _ (frugal : Allowance) where
     begins_run_alone among (frame.Treats w (ends cause) tasks ∷ k) ms own q = begins_run_alone among k ms own q.1
     begins_run_alone among (frame.Awaits w by done of part tasks ∷ k) ms own q = leads_run_alone among k ms own q.1
     begins_run_alone among (frame.Copies first t ∷ k) ms own q = begins_run_alone among k ms own q
-    begins_run_alone among (frame.StoresRecord w first count ∷ k) ms own (inl q) = begins_run_alone among k ms own q
+    begins_run_alone among (frame.Confines ∷ k) ms own q = begins_run_alone among k ms own q.1
+    begins_run_alone among (frame.StoresRecord w first count ∷ k) ms own (inl (same, q)) = begins_run_alone among k ms own q
     begins_run_alone among (frame.StoresRecord w first count ∷ k) ms own (inr q) = leads_run_alone among k ms own q
     begins_run_alone among (f ∷ k) ms own q = absurd q
 
@@ -642,8 +711,8 @@ module _ (program : Program) (spares : SparesOwn program) (s : State) where
     others_referred others [] o t is = is
     others_referred others (g ∷ inner) o t is = referred_behind g.referenced (referenced_in (callers_of program (inner ++ others))) o t (others_referred others inner o t is)
 
--- Nothing is assigned to that ends inside of another operation.
-assigned_outside : (cause : Cause) → IsAssigned cause → IsInside (ends cause) → ⊥
+-- Nothing ends that is assigned to.
+assigned_outside : (cause : Cause) → IsAssigned cause → IsEnded (ends cause) ⊎ IsLeft (ends cause) → ⊥
 assigned_outside (Leaving m item) assigned inside = assigned
 assigned_outside (Freeing number) assigned inside = assigned
 assigned_outside (Assigning number) assigned (inl inside) = inside
@@ -736,10 +805,11 @@ module _ (program : Program) (s : State) (grounds : Grounds program s) (gs : Lis
       frugal_begin thrifty v outermost.behind (operated_among w.inner) s.mode s.control w.frugal.upper other apart
       (waits_begin v ne outermost.treatment outermost.awaited) w.frugal.frugally
 
-  -- So it is of an object that is treated next, behind its treatment.
-  pub treated_begin : (v : Value) (treatment : Treatment) (tasks : List Task) (k : Control) → s.control ≡ frame.Treats v treatment tasks ∷ k → IsInside treatment → NothingBegins v k
-  treated_begin v treatment tasks k is inside =
-      by treatment inside w.frugal.upper
+  -- So it is of an object that ends next, behind its treatment.
+  pub treated_begin : (v : Value) (cause : Cause) (tasks : List Task) (k : Control) → s.control ≡ frame.Treats v (ends cause) tasks ∷ k
+      → IsEnded (ends cause) ⊎ IsLeft (ends cause) → NothingBegins v k
+  treated_begin v cause tasks k is inside =
+      by cause inside w.frugal.upper
       (subst (λ (all : Control). Frugal thrifty outermost.behind (operated_among w.inner) s.mode all w.frugal.upper) is w.frugal.frugally)
     where
       behind : (ms : List Master) → NoOperationRunsOn v k → FrugalLeads thrifty outermost.behind (operated_among w.inner) k ms → NothingBegins v k
@@ -756,14 +826,11 @@ module _ (program : Program) (s : State) (grounds : Grounds program s) (gs : Lis
           (λ among. leaving_runs thrifty v outermost.behind (operated_among w.inner) k ms among q alone)
           (waits_begin v other outermost.treatment outermost.awaited) q
 
-      by : (way : Treatment) → IsInside way → (ms : List Master) → Frugal thrifty outermost.behind (operated_among w.inner) s.mode (frame.Treats v way tasks ∷ k) ms → NothingBegins v k
+      by : (way : Cause) → IsEnded (ends way) ⊎ IsLeft (ends way) → (ms : List Master)
+          → Frugal thrifty outermost.behind (operated_among w.inner) s.mode (frame.Treats v (ends way) tasks ∷ k) ms → NothingBegins v k
       by way here ms (inl q) = behind ms q.0.3 q.1
       by way here ms (inr (inl leaving)) = behind_leaving ms leaving.1.0.3 leaving.1.1
-      by (begins birth done) here ms (inr (inr (may, (inl fresh, q)))) = behind ms fresh.2 q
-      by (begins Creation done) here ms (inr (inr (may, (inr adjusting, q)))) = absurd adjusting.0
-      by (begins Copy done) here ms (inr (inr (may, (inr adjusting, q)))) = behind ms adjusting.1.2 q
-      by (begins (Adjustment number) done) here ms (inr (inr (may, (inr adjusting, q)))) = absurd here
-      by (ends cause) here ms (inr (inr (may, (ending, q)))) = absurd (assigned_outside cause ending.0 here)
+      by way here ms (inr (inr (may, (ending, q)))) = absurd (assigned_outside way ending.0 here)
 
   -- What is outside of the running body.
   abbrev outer : Outsiders

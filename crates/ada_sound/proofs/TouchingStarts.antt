@@ -28,7 +28,7 @@ use Rattle.ada_meaning.specs.declared.state.Mode.TheVariants.{Running}
 use Rattle.ada_meaning.specs.declared.state.Value.{Value}
 use Rattle.ada_meaning.specs.declared.state.Value.TheVariants.{Names, Part}
 use Rattle.ada_meaning.specs.Frame as frame
-use Rattle.ada_meaning.specs.Frame.{Treatment, Treats, begins, ends, Copies, Ends}
+use Rattle.ada_meaning.specs.Frame.{Treatment, Treats, begins, ends, Copies, Ends, StoresRecord}
 use Rattle.ada_meaning.specs.Heap.{Cell}
 use Rattle.ada_meaning.specs.Law.{items_of}
 use Rattle.ada_meaning.specs.State.{Activation, Master, Owned, declared, collection, record_object, storage_pool}
@@ -53,7 +53,7 @@ use Rattle.ada_sound.proofs.Touching.{AdjustsBy, AreAround, CoversBy, Enters, To
 use Rattle.ada_sound.proofs.TouchingCopies.{Entered, adjusts_free, assigned_enters, declared_enters}
 use Rattle.ada_sound.proofs.Trackers.{touches_apart}
 use Rattle.ada_sound.proofs.TouchingBegins.{Begun, IsAlone, alone, touching_begins}
-use Rattle.ada_sound.proofs.TouchingRests.{IsEnd, assigns_by, at_start, ends_by}
+use Rattle.ada_sound.proofs.TouchingRests.{IsStoredIn, IsEnd, assigns_by, at_start, ends_by}
 use Rattle.ada_sound.proofs.Fits.{IsWithin, access_is}
 use Rattle.ada_sound.proofs.AssignedParts.{treated_frees_of, IsAssignedBehind, IsStartOrEnd}
 use Rattle.ada_sound.proofs.BareObjects.{operable_is_not_bare}
@@ -107,13 +107,22 @@ none_adjusts known (ends cause) access tasks k rooms holds start = tt
 abbrev pub IsLoneEnd : Value → Control → Type 0
 IsLoneEnd v k = (w : Value) (behind : Control) → k ≡ Ends w ∷ behind → NothingBegins v behind
 
--- So it is behind an object that is finalized; and behind a record that is assigned to, that record alone is adjusted (5.2).
+-- So it is behind an object that is finalized; and behind a record that is assigned to, what is copied is stored in that object (5.2).
 abbrev pub IsLoneBehind : Value → Treatment → Control → Type 0
 IsLoneBehind v (begins by done) k = Unit {0}
 IsLoneBehind v (ends (Leaving m item)) k = IsLoneEnd v k
 IsLoneBehind v (ends (Freeing number)) k = IsLoneEnd v k
-IsLoneBehind v (ends (Assigning number)) k = (first t : ℕ) (behind : Control) → k ≡ Copies first t ∷ behind → AdjustsAlone v behind
+IsLoneBehind v (ends (Assigning number)) k = (first t : ℕ) (behind : Control) → k ≡ Copies first t ∷ behind → IsStoredIn v behind
 IsLoneBehind v (ends (Undoing number)) k = IsLoneEnd v k
+
+-- So it is where a record alone is adjusted behind that.
+stored_alone : (v : Value) (k : Control) → AdjustsAlone v k → IsStoredIn v k
+stored_alone v k alone = record {
+  to = alone.to;
+  width = alone.width;
+  rest = treating (Names alone.object) (begins (Adjustment alone.number) []) alone.tasks alone.behind;
+  is = alone.is ∙ ap (λ (u : Value). StoresRecord u alone.to alone.width ∷ treating (Names alone.object) (begins (Adjustment alone.number) []) alone.tasks alone.behind) (sym alone.named);
+}
 
 -- So it is where an object ends inside another operation, behind which nothing of it begins.
 pub lone_inside : (v : Value) (treatment : Treatment) (k : Control) → IsEnded treatment ⊎ IsLeft treatment → NothingBegins v k → IsLoneBehind v treatment k
@@ -210,7 +219,7 @@ module _ (program : Program) (a : Activation Value) (rest : List (Activation Val
       enters (ends (Freeing number)) left alone may' around treats = ends_for (Freeing number) tt alone around treats
       enters (ends (Assigning number)) left alone may' around treats =
           assigns_by known o x heap found is_of a.places a.operands s.masters not_bare fits_here number spares_copied k treats
-          (λ first t behind at. subst (λ (u : Value). AdjustsAlone u behind) named (alone first t behind at)) around
+          (λ first t behind at. subst (λ (u : Value). IsStoredIn u behind) named (alone first t behind at)) around
       enters (ends (Undoing number)) left alone may' around treats = ends_for (Undoing number) tt alone around treats
 
     -- The object is not calm: for calm ones an Initialize is plain, and a Finalize quiet.
@@ -346,7 +355,7 @@ module _ (program : Program) (a : Activation Value) (rest : List (Activation Val
     lone_by (begins by done) one = tt
     lone_by (ends (Leaving m item)) one = λ w behind at. nothing_begins v behind (ended_alone (Leaving m item) one w behind at)
     lone_by (ends (Freeing number)) one = λ w behind at. nothing_begins v behind (ended_alone (Freeing number) one w behind at)
-    lone_by (ends (Assigning number)) one = assigned_alone number one
+    lone_by (ends (Assigning number)) one = λ first t behind at. stored_alone v behind (assigned_alone number one first t behind at)
     lone_by (ends (Undoing number)) one = λ w behind at. nothing_begins v behind (ended_alone (Undoing number) one w behind at)
 
     -- So it is, by what is treated.

@@ -1,6 +1,7 @@
 -- Each step while an operation that touches storage is under way: of its body, or of one that it has called, or of the operation of an object that one of these
 -- frees or allocates, or that is undone; their ends included (7.6, 7.6.1, 13.11.2, 4.8).
 
+use Rattle.ada_sound.proofs.FrugalFrees.{AssignsBeside}
 use Rattle.std.proofs.Common.{◌≡◌, ℕ, true, false, List, [], ◌∷◌, ◌++◌, refl, sym, ap, subst, ◌∙◌, inl, inr, suc}
 use Rattle.std.specs.Prelude.{Some}
 use Rattle.ada_program.specs.declared.program.Exception.{Exception}
@@ -14,9 +15,9 @@ use Rattle.ada_meaning.specs.declared.state.Mode.TheVariants.{Running, Raising, 
 use Rattle.ada_meaning.specs.declared.state.Value.{Value}
 use Rattle.ada_meaning.specs.Event.{Quiet}
 use Rattle.ada_meaning.specs.Frame as frame
-use Rattle.ada_meaning.specs.Frame.{Frame, Calls, Returns, Treats, is_return, is_master, landing}
+use Rattle.ada_meaning.specs.Frame.{Frame, Calls, Returns, Treats, is_return, is_master, landing, Assigns}
 use Rattle.ada_meaning.specs.State.{Activation, Master}
-use Rattle.ada_meaning.specs.Step.{halts, moves, tells, asks, picks, older, operands, places, procedure_of, frame_next, pass_next, jump_next, mode_next}
+use Rattle.ada_meaning.specs.Step.{halts, moves, tells, asks, picks, older, operands, places, procedure_of, frame_next, pass_next, jump_next, mode_next, operands_of}
 use Rattle.ada_meaning.specs.Named.{State, Next, named, next}
 use Rattle.ada_scopes.proofs.Components.{collect_two}
 use Rattle.ada_typed.proofs.Bodies.{own_bodies}
@@ -69,6 +70,15 @@ module _ (program : Program) (s : State) (f : Touching program s) (grounds : Gro
       freed_inside known s.heap (places s) (operands s) s.masters o s.control
       (subst (λ (mode : Mode). ReadyIn known mode s.control s.heap (places s) (operands s) s.masters) runs f.ready.1) freed outside
 
+  -- Where the body of an operation assigns next to a record for which an operation may be called, none of its object runs.
+  beside_next : s.mode ≡ Running → AssignsBeside (thrifty program s f) program.types.items s.control (operands_of s.activations)
+  beside_next runs = by s.control refl
+    where
+      by : (k : Control) → s.control ≡ k → AssignsBeside (thrifty program s f) program.types.items k (operands_of s.activations)
+      by [] is = tt
+      by (frame.Assigns t ∷ k) is = λ own calls o place target. grounds.beside runs t k is own calls o place target
+      by (g ∷ k) is = tt
+
   -- What is left to do is so behind each step but the end of a body, and the treatment of an object.
   goes_on : (s.mode ≡ Running → TreatsNothing s.control) → GoesFrugally (thrifty program s f) f.within.outermost.lower f.within.outermost.behind (operated_among f.within.inner) coming
   goes_on plain =
@@ -78,6 +88,7 @@ module _ (program : Program) (s : State) (f : Touching program s) (grounds : Gro
       (may_free program s) (touching_frees program s grounds f.suspensions f.ready)
       (λ runs first o x freed found listed may. listed_alone program s grounds f.suspensions w f.stands first o x found listed may (next_inside runs o freed)) grounds.unborn
       (λ runs. left_alone program s grounds f.suspensions w f.stands f.ready runs (λ left j is. (touching_leaves program s grounds f runs left j is).1))
+      beside_next
 
   -- The end of no body is next.
   no_end : (k : Control) → IsAwaited k → s.control ≡ Returns [] [] ∷ k → ⊥

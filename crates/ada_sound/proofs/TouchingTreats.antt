@@ -1,7 +1,10 @@
 -- An object that is freed or undone, or whose master is left, is finalized while an operation that touches storage is under way (7.6.1, 13.11.2), and one that
 -- is allocated or declared, also as a copy, begins (4.8, 3.3.1): its operation begins, inside the other one, or what is left goes on.
 
-use Rattle.std.proofs.Common.{◌≡◌, ℕ, true, List, [], ◌∷◌, ◌++◌, refl, sym, ap, subst, ◌∙◌, inl, inr, ◌+◌, arith, drop, length, suc}
+use Rattle.ada_sound.proofs.TouchingRests.{IsStoredIn}
+use Rattle.ada_meaning.specs.declared.event.Cause.TheVariants.{Leaving, Freeing, Assigning, Undoing}
+use Rattle.ada_sound.proofs.Operates.{CopiesInto}
+use Rattle.std.proofs.Common.{◌≡◌, ℕ, true, List, [], ◌∷◌, ◌++◌, refl, sym, ap, subst, ◌∙◌, inl, inr, ◌+◌, arith, drop, length, suc, ◌⊎◌}
 use Rattle.std.specs.Prelude.{Option, Some, None}
 use Rattle.ada_parts.specs.Task.{Task}
 use Rattle.ada_program.specs.declared.program.Program.{Program}
@@ -15,7 +18,7 @@ use Rattle.ada_meaning.specs.declared.state.Mode.TheVariants.{Running}
 use Rattle.ada_meaning.specs.declared.state.Value.{Value}
 use Rattle.ada_meaning.specs.declared.state.Value.TheVariants.{Names, Part}
 use Rattle.ada_meaning.specs.Event.{Quiet}
-use Rattle.ada_meaning.specs.Frame.{Treatment, begins, ends, Awaits, Confines, Treats}
+use Rattle.ada_meaning.specs.Frame.{Treatment, begins, ends, Awaits, Confines, Treats, Copies}
 use Rattle.ada_meaning.specs.State.{Activation, Master}
 use Rattle.ada_meaning.specs.Step.{halts, moves, tells, asks, picks, older, operating, procedure_of, operands_of, frame_next, treating}
 use Rattle.ada_meaning.specs.Named.{State, Next, named, next}
@@ -24,7 +27,7 @@ use Rattle.ada_quiet.specs.Frugal.{is_frugal_body, thrift_of}
 use Rattle.ada_quiet.specs.Idle.{copies_parts}
 use Rattle.ada_quiet.specs.InUse.{may_be_frugal, tracks_nothing}
 use Rattle.ada_idle.specs.Law.{adjusts_copy}
-use Rattle.ada_finalized.specs.Law.{finalized_before}
+use Rattle.ada_finalized.specs.Law.{finalized_before, NoOperationRunsOn}
 use Rattle.ada_reaching.proofs.Behind.{behind_reaches, treating_inside, waiting_inside, waiting_reaches}
 use Rattle.ada_reaching.specs.Apart.{Apart}
 use Rattle.ada_reaching.specs.Reaching.{IsReaching}
@@ -35,7 +38,7 @@ use Rattle.ada_sound.proofs.Allowance.{Allowance, body_thrifty, is_thrifty_body}
 use Rattle.ada_sound.specs.Agreement.{running_procedure}
 use Rattle.ada_sound.proofs.Alters.{Alters}
 use Rattle.ada_sound.proofs.Callers.{Suspension, known_in, Stands, AreOf}
-use Rattle.ada_sound.proofs.FrugalControl.{BeginsThere, EndsThere, LeavesThere, Frugal, Frugally, FrugalOperated, IsInside, begun_leads, ends_leads, leaves_operated, frugal_starts_inside, operated_in, operated_on}
+use Rattle.ada_sound.proofs.FrugalControl.{BeginsThere, EndsThere, LeavesThere, Frugal, Frugally, FrugalOperated, IsInside, begun_leads, ends_leads, leaves_operated, frugal_starts_inside, operated_in, operated_on, replaces_operated, IsReplacing, replacing_before, IsEnded, IsLeft}
 use Rattle.ada_sound.proofs.FrugalSteps.{GoesOrBegins, IsTreated, treats_frugally}
 use Rattle.ada_sound.proofs.Inert.{inert_calls, stays_inert}
 use Rattle.ada_sound.proofs.Invariant.{Control, Known, Stepped}
@@ -129,15 +132,16 @@ module _ (program : Program) (a : Activation Value) (rest : List (Activation Val
     inside_so : (way : Treatment) → Treated way → IsInside way
     inside_so (begins Creation done) beginning = tt
     inside_so (begins Copy done) beginning = tt
-    inside_so (begins (Adjustment number) done) beginning = absurd beginning.0.0
-    inside_so (ends cause) (inl ending) = inl ending.0.0
-    inside_so (ends cause) (inr leaving) = inr leaving.0.0
+    inside_so (begins (Adjustment number) done) beginning = tt
+    inside_so (ends cause) (inl ending) = inl (inl ending.0.0)
+    inside_so (ends cause) (inr (inl leaving)) = inl (inr leaving.0.0)
+    inside_so (ends cause) (inr (inr replacing)) = inr replacing.0.0
 
     -- Where it is a copy, no Adjust tracks.
     untracked_so : (way : Treatment) → Treated way → AdjustsCopy way → tracks_nothing p ≡ true
     untracked_so (begins Creation done) beginning copies = absurd copies
     untracked_so (begins Copy done) beginning copies = beginning.0.0
-    untracked_so (begins (Adjustment number) done) beginning copies = absurd beginning.0.0
+    untracked_so (begins (Adjustment number) done) beginning copies = beginning.0.0
     untracked_so (ends cause) ended copies = absurd copies
 
     -- It goes on in the body that frees, allocates or declares it, or that leaves its master, or out of whose beginning an exception has come.
@@ -185,7 +189,11 @@ module _ (program : Program) (a : Activation Value) (rest : List (Activation Val
               subst (λ (j : Control). FrugalOperated frugal operation.behind (Names c.o ∷ among) j upper) (sym is)
               (ends_leads frugal operation.behind among (Names c.o) (ends cause) c.tasks k upper
               (subst (λ (u : Value). EndsThere frugal u (ends cause) k) c.operated.3 ending.0) ending.1)
-          by (ends cause) (inr leaving) (is, inside) =
+          by (ends cause) (inr (inr ((assigns, copies, treats, own, replacing, alone), q))) (is, inside) =
+              subst (λ (j : Control). FrugalOperated frugal operation.behind (Names c.o ∷ among) j upper) (sym is)
+              (replaces_operated frugal operation.behind among (Names c.o) cause c.tasks k upper assigns copies treats own
+              (subst (λ (u : Value). IsReplacing u k) c.operated.3 replacing) (subst (λ (u : Value). NoOperationRunsOn u k) c.operated.3 alone) q)
+          by (ends cause) (inr (inl leaving)) (is, inside) =
               subst (λ (j : Control). FrugalOperated frugal operation.behind (Names c.o ∷ among) j upper) (sym is)
               (leaves_operated frugal operation.behind among (Names c.o) (ends cause) c.tasks k upper
               (subst (λ (u : Value). LeavesThere frugal u (ends cause) k) c.operated.3 leaving.0) leaving.1)
@@ -196,7 +204,8 @@ module _ (program : Program) (a : Activation Value) (rest : List (Activation Val
         where
           finalized : (cause : Cause) → Treated (ends cause) → finalized_before k ≡ v
           finalized cause (inl ending) = ending.0.2
-          finalized cause (inr leaving) = leaving.0.2
+          finalized cause (inr (inl leaving)) = leaving.0.2
+          finalized cause (inr (inr replacing)) = replacing_before v k replacing.0.4
 
           by : (way : Treatment) → Treated way → WaitsFor p.types c.o c.of way c.tasks k c.behind → operated_in c.behind ≡ Names c.o ∷ []
           by (begins how done) beginning (part, is) = ap operated_in is
@@ -207,6 +216,19 @@ module _ (program : Program) (a : Activation Value) (rest : List (Activation Val
       leads_operated : FrugalOperated frugal operation.behind (operated_in c.behind ++ among) c.behind upper
       leads_operated =
           subst (λ (us : List Value). FrugalOperated frugal operation.behind (us ++ among) c.behind upper) (sym operated_here) leads_behind
+
+      -- Behind one that is assigned to, what is copied is stored in it.
+      replaces_here : CopiesInto c.treatment (Names c.o) k
+      replaces_here = by c.treatment is_treated
+        where
+          by : (way : Treatment) → Treated way → CopiesInto way (Names c.o) k
+          by (begins how done) treated = tt
+          by (ends (Leaving m item)) treated = tt
+          by (ends (Freeing number)) treated = tt
+          by (ends (Assigning number)) (inl ending) = absurd ending.0.0
+          by (ends (Assigning number)) (inr (inl leaving)) = absurd leaving.0.0
+          by (ends (Assigning number)) (inr (inr replacing)) = subst (λ (u : Value). IsReplacing u k) c.operated.3 replacing.0.4
+          by (ends (Undoing number)) treated = tt
 
       -- So it is once that has come to its end.
       frugal_behind : Frugal frugal operation.behind among Running c.behind upper
@@ -329,7 +351,7 @@ module _ (program : Program) (a : Activation Value) (rest : List (Activation Val
         begins_quiet plain = inr (inl (record {
           operates =
               begins_operation program grounds.well a rest f.suspensions s k Operated e after stands_here typed_after c
-              (inr (inside_it, within_behind)) plain;
+              (inr (inside_it, replaces_here, within_behind)) plain;
           alters = alters_here;
           says = told_says e s.heap after c.tells;
           covered = told_covered program e c.tells;
@@ -395,17 +417,35 @@ module _ (program : Program) (a : Activation Value) (rest : List (Activation Val
                 stands = begun.stands;
               }))
 
-        -- Nothing of the object begins behind it, where it ends.
-        lone_here : (way : Treatment) → IsInside way → IsLoneBehind v way k
-        lone_here (begins how done) inside = tt
-        lone_here (ends cause) ended = lone_inside v (ends cause) k ended (treated_begin program whole grounds f.suspensions f.within f.stands v treatment tasks k refl (inside_so treatment called_here))
+        lone_ended : (cause : Cause) → ends cause ≡ treatment → IsEnded (ends cause) ⊎ IsLeft (ends cause) → IsLoneBehind v (ends cause) k
+        lone_ended cause one ended =
+            lone_inside v (ends cause) k ended
+            (treated_begin program whole grounds f.suspensions f.within f.stands v cause tasks k (ap (λ (way : Treatment). Treats v way tasks ∷ k) (sym one)) ended)
+
+        stored_in : IsReplacing v k → (first t : ℕ) (rest : Control) → k ≡ Copies first t ∷ rest → IsStoredIn v rest
+        stored_in replacing first t rest at = record {
+          to = replacing.to;
+          width = replacing.width;
+          rest = replacing.rest;
+          is = (let one = sym at ∙ replacing.is in cc one);
+        }
+
+        -- Nothing of the object begins behind it, where it ends; and where a record of it is assigned to, what is copied is stored in it.
+        lone_here : (way : Treatment) → way ≡ treatment → Treated way → IsLoneBehind v way k
+        lone_here (begins how done) one treated = tt
+        lone_here (ends cause) one (inl ending) = lone_ended cause one (inl ending.0.0)
+        lone_here (ends cause) one (inr (inl leaving)) = lone_ended cause one (inr leaving.0.0)
+        lone_here (ends (Leaving m item)) one (inr (inr replacing)) = absurd replacing.0.0
+        lone_here (ends (Freeing number)) one (inr (inr replacing)) = absurd replacing.0.0
+        lone_here (ends (Assigning number)) one (inr (inr replacing)) = λ first t rest at. stored_in replacing.0.4 first t rest at
+        lone_here (ends (Undoing number)) one (inr (inr replacing)) = absurd replacing.0.0
 
         -- So one begins inside that touches storage.
         begins_frugal : MayTouch p c.treatment → may_be_frugal p ≡ true → is_frugal_body (thrift_of p) c.b ≡ true → TouchesStorage p c.treatment c.b
             → Went program s.heap e after
         begins_frugal touches may frugal_body stores =
             let uses = treats_in_use program whole grounds whole.control refl tt in
-            let lone = lone_here treatment (inside_so treatment called_here) in
+            let lone = lone_here treatment refl called_here in
             inl (begins_inside (touching_starts program a rest s k v treatment tasks f.suspensions whole refl grounds lone stands_here (λ none q y gone. touching_awaits program f.suspensions whole f.within) uses (treats_made program whole grounds v treatment tasks k refl) e after c touches may frugal_body stores typed_after) frugal_body)
 
         begins_as : IsUsedAs p c.of c.number c.treatment c.b → Went program s.heap e after

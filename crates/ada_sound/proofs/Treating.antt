@@ -12,7 +12,7 @@ use Rattle.ada_meaning.specs.declared.state.Mode.TheVariants.{Running}
 use Rattle.ada_meaning.specs.declared.state.Value.{Value}
 use Rattle.ada_meaning.specs.declared.state.Value.TheVariants.{Names}
 use Rattle.ada_meaning.specs.Event.{Born, Finalized, Back, Followed, Left, Line, Quiet}
-use Rattle.ada_meaning.specs.Frame.{Treatment, Treats}
+use Rattle.ada_meaning.specs.Frame.{Treatment, Treats, Assigns}
 use Rattle.ada_meaning.specs.Named.{Object, State, named}
 use Rattle.ada_meaning.specs.Run.{Event}
 use Rattle.ada_meaning.specs.State.{Activation}
@@ -78,6 +78,25 @@ treated_in_use program s in_use idles (Treats v treatment tasks ∷ k) is first 
         let is_idle = idles (none (makes_parts p) (operations_stand_in_order p) idle) in
         absurd ((subst (λ (all : Control). ControlIsIdle p.types all) is is_idle.control).0)
 treated_in_use program s in_use idles (f ∷ k) is first = absurd first
+
+-- So it is where a record with controlled parts is assigned to (5.2).
+pub assigned_in_use :
+    (program : Program) (s : State) → operations_are_in_use (program_form program) ≡ true → (makes_parts (program_form program) ≡ false → IsIdle (program_form program).types s)
+    → (t : ℕ) (k : Control) → s.control ≡ Assigns t ∷ k → operations_may_be_called (program_form program) ≡ true
+assigned_in_use program s in_use idles t k is = by (or_cases (operations_are_idle p) (operations_may_be_called p) in_use)
+  where
+    p : ProgramForm
+    p = program_form program
+
+    none : (made ordered : Bool) → (not made && ordered) ≡ true → made ≡ false
+    none true ordered idle = absurd (cc idle)
+    none false ordered idle = refl
+
+    by : (operations_are_idle p ≡ true) ⊎ (operations_may_be_called p ≡ true) → operations_may_be_called p ≡ true
+    by (inr called) = called
+    by (inl idle) =
+        let is_idle = idles (none (makes_parts p) (operations_stand_in_order p) idle) in
+        absurd ((subst (λ (all : Control). ControlIsIdle p.types all) is is_idle.control).0)
 
 pub treats_in_use : (program : Program) (s : State) → Grounds program s → (k : Control) → s.control ≡ k → TreatsFirst k → operations_may_be_called (program_form program) ≡ true
 treats_in_use program s grounds k is first = treated_in_use program s grounds.in_use grounds.idle k is first
