@@ -15,8 +15,7 @@ use Rattle.ada_program.specs.WellFormed.{finalization_in, finalization_of}
 use Rattle.ada_quiet.proofs.FrugalAt.{operation_at}
 use Rattle.ada_quiet.proofs.QuietFrugal.{frugal_body}
 use Rattle.ada_quiet.specs.Apart.{is_bare_item}
-use Rattle.ada_quiet.specs.Calm.{is_known_calm, unfinalized_types}
-use Rattle.ada_quiet.specs.Frugal.{Thrift, assigns_at_hand, is_unadjusted, are_frugal_declarations, is_frugal_stmt, are_frugal, are_frugal_branches, are_frugal_handlers, is_frugal_body, is_frugal_operation, thrift_of, is_inert, is_copied}
+use Rattle.ada_quiet.specs.Frugal.{Thrift, assigns_at_hand, are_frugal_declarations, is_frugal_stmt, are_frugal, are_frugal_branches, are_frugal_handlers, is_frugal_body, is_frugal_operation, thrift_of, is_inert, is_copied}
 use Rattle.ada_quiet.specs.InUse.{adjusts_alone, adjusts_nothing, may_adjust_frugally, may_be_frugal, may_track, operations_may_be_called, uses_adjust, uses_called_adjust, uses_finalize, uses_initialize, uses_operations}
 use Rattle.ada_quiet.specs.Quiet.{has_access, operation_body, is_plain_body, is_plain_operation, is_quiet_body, is_quiet_operation}
 use Rattle.ada_quiet.specs.Simple.{is_simple_body, is_simple_operation}

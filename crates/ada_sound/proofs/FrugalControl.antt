@@ -13,7 +13,7 @@ use Rattle.ada_program.specs.Form.{ActualForm}
 use Rattle.ada_program.specs.WellFormed.{finalization_of, object_named}
 use Rattle.ada_quiet.specs.Calm.{is_known_calm}
 use Rattle.ada_assigned.specs.Law as assigned
-use Rattle.ada_finalized.specs.Law.{NoOperationRunsOn, finalized_before, waits_for_operation}
+use Rattle.ada_finalized.specs.Law.{NoOperationRunsOn, finalized_before}
 use Rattle.ada_program.specs.ProgramForm.{TypeForm, BodyForm}
 use Rattle.ada_meaning.specs.declared.state.Value.{Value}
 use Rattle.ada_meaning.specs.declared.state.Mode.{Mode}
@@ -33,7 +33,7 @@ use Rattle.ada_parts.specs.Part.{Part}
 use Rattle.ada_typed.proofs.Control.{is_operation}
 use Rattle.ada_typed.proofs.Kept.{is_treatment}
 use Rattle.ada_sound.proofs.Invariant.{Control, IsAwaited}
-use Rattle.ada_sound.proofs.Allowance.{Allowance, is_unadjusted, is_unfinalized, may_assign, may_treat, may_create, may_fill, allocates_thriftily, are_thrifty_declarations, are_thrifty, are_thrifty_branches, are_thrifty_handlers, is_thrifty_body, thrifty_parts}
+use Rattle.ada_sound.proofs.Allowance.{Allowance, is_unadjusted, may_assign, may_treat, may_create, may_fill, allocates_thriftily, are_thrifty_declarations, are_thrifty, are_thrifty_branches, are_thrifty_handlers, is_thrifty_body, thrifty_parts}
 use Rattle.ada_sound.proofs.InsideRecords.{TasksInside}
 
 -- An object ends in a body that frees it (13.11.2), or out of whose initialization an exception comes (7.6.1).

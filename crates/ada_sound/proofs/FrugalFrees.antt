@@ -46,7 +46,7 @@ use Rattle.ada_typed.proofs.Targets.{component_there}
 use Rattle.ada_typed.proofs.Values as typing
 use Rattle.ada_typed.proofs.Values.{OperandKind, of_kind, AreComputed}
 use Rattle.ada_scopes.specs.Scopes.{is_innermost}
-use Rattle.ada_sound.proofs.Allowance.{Allowance, may_create, may_treat, are_thrifty, is_unfinalized, is_inert}
+use Rattle.ada_sound.proofs.Allowance.{Allowance, may_create, may_treat, are_thrifty, is_inert}
 use Rattle.ada_sound.proofs.Assigned.{access_from, this_is}
 use Rattle.ada_sound.proofs.Calm.{ends_operation, operation_ends_there}
 use Rattle.ada_sound.proofs.Fits.{place_at}

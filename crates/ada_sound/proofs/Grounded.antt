@@ -8,8 +8,6 @@ use Rattle.ada_meaning.specs.Named.{State}
 use Rattle.ada_meaning.specs.declared.event.Cause.TheVariants.{Assigning}
 use Rattle.ada_meaning.specs.Frame.{Copies, Treats, ends}
 use Rattle.ada_assigned.proofs.Runs.{assignments_stand, beside_run_alone}
-use Rattle.ada_program.specs.WellFormed.{finalization_of}
-use Rattle.ada_quiet.specs.Calm.{is_known_calm, unfinalized_types}
 use Rattle.ada_finalized.proofs.Standing as standing
 use Rattle.ada_finalized.proofs.Twice as twice
 use Rattle.ada_sound.proofs.AssignsInside.{operations_inside}

@@ -10,7 +10,7 @@ use Rattle.ada_flow.specs.Flow.{ObeysRules}
 use Rattle.ada_program.specs.declared.program.Program.{Program}
 use Rattle.ada_program.specs.Freed.{FreesItsOwn}
 use Rattle.ada_program.specs.ProgramForm.{TypeForm, program_form, body_forms, main_body, seen_in}
-use Rattle.ada_program.specs.WellFormed.{IsWellFormed, finalization_of, is_access}
+use Rattle.ada_program.specs.WellFormed.{IsWellFormed, is_access}
 use Rattle.ada_parts.specs.Part as parts
 use Rattle.ada_parts.specs.Task.{Task}
 use Rattle.ada_meaning.specs.declared.event.Birth.{Birth}
@@ -37,7 +37,6 @@ use Rattle.ada_idle.proofs.Unadjusted.{AdjustsNone}
 use Rattle.ada_idle.specs.Law.{adjusts_copy}
 use Rattle.ada_quiet.specs.Apart.{is_tracker, operations_stand_apart}
 use Rattle.ada_quiet.specs.Idle.{copies_parts, makes_parts}
-use Rattle.ada_quiet.specs.Calm.{is_known_calm, unfinalized_types}
 use Rattle.ada_quiet.specs.InUse.{operations_are_in_use}
 use Rattle.ada_scopes.proofs.Runs.{Scoped}
 use Rattle.ada_typed.proofs.Control as typed

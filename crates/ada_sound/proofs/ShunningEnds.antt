@@ -20,7 +20,7 @@ use Rattle.ada_meaning.specs.declared.event.Birth.TheVariants.{Creation}
 use Rattle.ada_meaning.specs.declared.event.Cause.TheVariants.{Freeing}
 use Rattle.ada_meaning.specs.Frame.{Treatment, begins, ends}
 use Rattle.ada_meaning.specs.Step.{all_tasks, member_at, picked_task, tasks_for}
-use Rattle.ada_quiet.specs.Calm.{is_known_calm, unadjusted_types, unfinalized_types}
+use Rattle.ada_quiet.specs.Calm.{is_known_calm, unadjusted_types}
 use Rattle.ada_quiet.specs.Frugal.{thrift_of, frugal_procedures, is_frugal_body}
 use Rattle.ada_quiet.specs.Apart.{leave_access}
 use Rattle.ada_quiet.specs.InUse.{operations_may_be_called, tracks_nothing}
@@ -42,7 +42,7 @@ use Rattle.ada_reaching.specs.Forms.{body_shuns}
 use Rattle.ada_reaching.specs.Law.{AreApart}
 use Rattle.ada_reaching.specs.Deeds.{AreShaped, UseNone}
 use Rattle.ada_reaching.proofs.Deeds.{unused_apart}
-use Rattle.ada_reaching.proofs.Inert.{unadjusted_calls_nothing, unfinalized_calls_nothing}
+use Rattle.ada_reaching.proofs.Inert.{unadjusted_calls_nothing}
 use Rattle.ada_typed.proofs.Bodies.{SeenFits, seen_as, seen_fits}
 use Rattle.ada_typed.proofs.Lying.{IsOperable, Lying, lying_all, lying_taken}
 use Rattle.ada_typed.proofs.Parts.{known_number, shapes_shown}

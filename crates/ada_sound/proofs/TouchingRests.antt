@@ -10,7 +10,7 @@ use Rattle.ada_flow.specs.declared.rule.Hold.{Hold}
 use Rattle.ada_flow.specs.declared.rule.Hold.TheVariants as hold
 use Rattle.ada_flow.specs.Flow.{Holds, Gone as GoneWith, hold_at, is_among}
 use Rattle.ada_meaning.specs.declared.event.Cause.{Cause}
-use Rattle.ada_meaning.specs.declared.event.Birth.TheVariants.{Creation, Adjustment}
+use Rattle.ada_meaning.specs.declared.event.Birth.TheVariants.{Creation}
 use Rattle.ada_meaning.specs.declared.event.Cause.TheVariants.{Leaving, Freeing, Assigning, Undoing}
 use Rattle.ada_meaning.specs.declared.state.Id.{Id}
 use Rattle.ada_meaning.specs.declared.state.Mode.{Mode}
@@ -43,7 +43,7 @@ use Rattle.ada_sound.proofs.Items.{Counted, HasItem, Houses, newest_is}
 use Rattle.ada_sound.proofs.Stored.{IsUnder, Stored}
 use Rattle.ada_meaning.specs.Heap.{Home}
 use Rattle.ada_finalized.specs.Law.{NothingBegins}
-use Rattle.ada_meaning.specs.Step.{first_or, treating}
+use Rattle.ada_meaning.specs.Step.{first_or}
 use Rattle.ada_parts.specs.Task.{Task}
 
 -- A finalization ends its object, unless it is one at an assignment.
