@@ -120,8 +120,7 @@ fn is_frugal_declaration(thrift: Thrift<'_>, declaration: &Declaration) -> bool
             variable: _,
             object,
             initial: Some(items),
-        } => is_bare_initial(thrift.types, *object, items)
-            || is_copied_initial(thrift, *object),
+        } => is_bare_initial(thrift.types, *object, items) || is_copied_initial(thrift, *object),
         Declaration::Pool(_) | Declaration::Collection(_) => false,
     }
 }
@@ -178,8 +177,7 @@ fn assigns_at_hand(thrift: Thrift<'_>, target: &RecordPath) -> bool
     thrift.operation
         && is_copied(thrift, target.record)
         && !record_path_raises(target)
-        && (target.object.root.0 != 0
-            || (is_inert(thrift, target.record) && target.part.0 != 0))
+        && (target.object.root.0 != 0 || (is_inert(thrift, target.record) && target.part.0 != 0))
 }
 
 /// Whether a record that is assigned to as a whole lies so, if it has controlled parts; and else whether nothing is copied into it that

@@ -30,7 +30,7 @@ use Rattle.ada_program.proofs.Shapes.{same_number, shapes_length}
 use Rattle.ada_program.proofs.Walks.{one_step, walks_on}
 use Rattle.ada_meaning.proofs.Places.{is_declared, known, numbers_are_alone, types_have_their_operations}
 use Rattle.ada_meaning.specs.Step.{member_at, picked_task, tasks_in}
-use Rattle.ada_quiet.specs.Calm.{inheriting_types, inherits, is_known_calm, unadjusted_types, unfinalized_types}
+use Rattle.ada_quiet.specs.Calm.{inheriting_types, inherits, is_known_calm, unadjusted_types}
 use Rattle.ada_quiet.proofs.CalmTypes.{calm_is_told_within}
 use Rattle.ada_reaching.specs.Apart.{IsLeftIn, whole_in, picked_in, called_in}
 
@@ -260,18 +260,10 @@ module _ (finalize : Bool) (program : Program) (well : IsWellFormed (program_for
       (direction : Direction) (t : ℕ) → IsInert t → {tasks : List Task} → IsLeftIn types direction t tasks → EachIn HasInert tasks
   left_inert direction t inert left = left_each types HasInert inert_parts direction t (λ n numbered. (t, numbered, inert)) left
 
--- No Adjust is called for a part of a record of such a type that is adjusted,
+-- No Adjust is called for a part of a record of such a type that is adjusted.
 pub unadjusted_calls_nothing :
     (program : Program) → IsWellFormed (program_form program) → (record_type of part : ℕ) (tasks : List Task)
     → is_known_calm (unadjusted_types (program_form program).types) (finalization_of (program_form program).types record_type) ≡ true
     → IsLeftIn program.types.items PartsFirst record_type (performs of part ∷ tasks) → procedure_number (operations_of program.types.items of).adjust ≡ None
 unadjusted_calls_nothing program well record_type of part tasks inert left =
     inert_calls false program well of (left_inert false program well PartsFirst record_type inert left).0
-
--- and no Finalize for a part of one that is finalized.
-pub unfinalized_calls_nothing :
-    (program : Program) → IsWellFormed (program_form program) → (record_type of part : ℕ) (tasks : List Task)
-    → is_known_calm (unfinalized_types (program_form program).types) (finalization_of (program_form program).types record_type) ≡ true
-    → IsLeftIn program.types.items WholeFirst record_type (performs of part ∷ tasks) → procedure_number (operations_of program.types.items of).finalize ≡ None
-unfinalized_calls_nothing program well record_type of part tasks inert left =
-    inert_calls true program well of (left_inert true program well WholeFirst record_type inert left).0
