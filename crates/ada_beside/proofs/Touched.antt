@@ -157,10 +157,13 @@ module _ (types : List TypeDefinition) (w : View) (reaches beside : ℕ → Bool
     copied_open :
         (v : Value) (first count : ℕ) → (leads_to w.object v ≡ true → AreNoneOf beside first count)
         → IsInSight no_ghosts v × AreShown (hidden_beside w beside) v first count
-    copied_open v first count none = (in_sight v, λ i lt. elim (false_or_true (leads_to w.object v)) [
-      | inl other ↦ shown_other v (first + i) other
-      | inr itself ↦ shown_apart v (first + i) (none itself i lt)
-    ])
+    copied_open v first count none = (
+      in_sight v,
+      λ i lt. elim (false_or_true (leads_to w.object v)) [
+        | inl other ↦ shown_other v (first + i) other
+        | inr itself ↦ shown_apart v (first + i) (none itself i lt)
+      ],
+    )
 
     -- A frame looks at no hidden component.
     frame_open :
