@@ -1,6 +1,6 @@
 -- The law.
 use Rattle.ada_still.specs.Law.{StandStillWhereStill}
-use Rattle.ada_still.proofs.Sits.{body_begins}
+use Rattle.ada_still.proofs.Forms.{made_sits}
 
 pub stand_still : StandStillWhereStill
-stand_still = body_begins
+stand_still = made_sits

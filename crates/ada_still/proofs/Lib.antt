@@ -4,5 +4,7 @@
 pub mod Coming
 -- what is left to do sits in still bodies, or behind them
 pub mod Sits
+-- paths, expressions, values, allocators and Free, and the leaving of a master
+pub mod Forms
 -- the law
 pub mod Law
