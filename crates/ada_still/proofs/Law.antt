@@ -1,6 +1,6 @@
 -- The law.
 use Rattle.ada_still.specs.Law.{StandStillWhereStill}
-use Rattle.ada_still.proofs.Forms.{made_sits}
+use Rattle.ada_still.proofs.Treats.{broken_off_sits}
 
 pub stand_still : StandStillWhereStill
-stand_still = made_sits
+stand_still = broken_off_sits

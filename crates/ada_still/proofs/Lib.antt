@@ -6,5 +6,7 @@ pub mod Coming
 pub mod Sits
 -- paths, expressions, values, allocators and Free, and the leaving of a master
 pub mod Forms
+-- objects are treated behind still bodies
+pub mod Treats
 -- the law
 pub mod Law
