@@ -227,6 +227,14 @@ module _ (forms : List TypeForm) (still own : ℕ → Bool) (b : Bool) where
   back_sits v cause pool on_other s h = tt
   back_sits v cause pool (finds cell) s h = given_sits (same_pool pool cell.home.pool) v cause cell s h
 
+module _ (forms : List TypeForm) where
+  -- What is found has no controlled parts.
+  abbrev pub FoundIsBare : Found (Cell Value) → Type 0
+  FoundIsBare on_null = Unit {0}
+  FoundIsBare on_gone = Unit {0}
+  FoundIsBare on_other = Unit {0}
+  FoundIsBare (finds cell) = holds_parts forms cell.access ≡ false
+
 module _ (forms : List TypeForm) (still own : ℕ → Bool) (b : Bool) (types : List TypeDefinition) (shown : map type_form types ≡ forms) where
   -- In still bodies there is nothing to do for an object that such a text creates.
   none_to_do : (access : ℕ) (direction : Direction) → (b ≡ true → holds_parts forms access ≡ false) → b ≡ true → all_tasks types access direction ≡ []
@@ -254,13 +262,6 @@ module _ (forms : List TypeForm) (still own : ℕ → Bool) (b : Bool) (types : 
   right_sits (allocates_default access) s may h = ((may, h.0), h.1)
   right_sits (computes e) s may h = ((tt, h.0), h.1)
 
-  -- What is found has no controlled parts.
-  abbrev pub FoundIsBare : Found (Cell Value) → Type 0
-  FoundIsBare on_null = Unit {0}
-  FoundIsBare on_gone = Unit {0}
-  FoundIsBare on_other = Unit {0}
-  FoundIsBare (finds cell) = holds_parts forms cell.access ≡ false
-
   -- Free (13.11.2): what a still body frees has no controlled parts, so nothing is finalized.
   freeing_sits : (access : ℕ) (v : Value) (cell : Cell Value) (clears : Frame Value) (s : State) → (b ≡ true → holds_parts forms cell.access ≡ false)
       → Rests forms still own b (at (clears ∷ s.control) s) → Rests forms still own b (freeing named types access v cell clears s)
@@ -280,14 +281,14 @@ module _ (forms : List TypeForm) (still own : ℕ → Bool) (b : Bool) (types : 
       by_pool true = freeing_sits access v cell clears s none h
       by_pool false = tt
 
-  pub free_sits : (access x : ℕ) (v : Value) (found : Found (Cell Value)) (s : State) → (b ≡ true → FoundIsBare found) → Rests forms still own b s
+  pub free_sits : (access x : ℕ) (v : Value) (found : Found (Cell Value)) (s : State) → (b ≡ true → FoundIsBare forms found) → Rests forms still own b s
       → AllRest forms still own b (free_next named types access x v found s)
   free_sits access x v on_null s none h = h
   free_sits access x v on_gone s none h = tt
   free_sits access x v on_other s none h = tt
   free_sits access x v (finds cell) s none h = freeing_next_sits access v cell (frame.Clears x) Quiet s none ((tt, h.0), h.1)
 
-  freed_sits : (access : ℕ) (o : Value) (c : ℕ) (v : Value) (found : Found (Cell Value)) (s : State) → (b ≡ true → FoundIsBare found) → Rests forms still own b s
+  freed_sits : (access : ℕ) (o : Value) (c : ℕ) (v : Value) (found : Found (Cell Value)) (s : State) → (b ≡ true → FoundIsBare forms found) → Rests forms still own b s
       → AllRest forms still own b (freed_next named types access o c v found s)
   freed_sits access o c v on_null s none h = h
   freed_sits access o c v on_gone s none h = tt
@@ -295,13 +296,13 @@ module _ (forms : List TypeForm) (still own : ℕ → Bool) (b : Bool) (types : 
   freed_sits access o c v (finds cell) s none h = freeing_next_sits access v cell (frame.ClearsIn o c) (Followed o) s none ((tt, h.0), h.1)
 
   free_component_sits : (access : ℕ) (o : Value) (c : ℕ) (found : Option Value) (s : State)
-      → ((v : Value) → found ≡ Some v → b ≡ true → FoundIsBare (standing s.heap v)) → Rests forms still own b s
+      → ((v : Value) → found ≡ Some v → b ≡ true → FoundIsBare forms (standing s.heap v)) → Rests forms still own b s
       → AllRest forms still own b (free_component_next named types access o c found s)
   free_component_sits access o c None s bare h = tt
   free_component_sits access o c (Some v) s bare h = freed_sits access o c v (standing s.heap v) s (bare v refl) h
 
   pub free_in_sits : (access : ℕ) (o : Value) (c : ℕ) (found : Found (Cell Value)) (s : State)
-      → ((cell : Cell Value) (v : Value) → found ≡ finds cell → slice_get cell.values c ≡ Some v → b ≡ true → FoundIsBare (standing s.heap v)) → Rests forms still own b s
+      → ((cell : Cell Value) (v : Value) → found ≡ finds cell → slice_get cell.values c ≡ Some v → b ≡ true → FoundIsBare forms (standing s.heap v)) → Rests forms still own b s
       → AllRest forms still own b (free_in_next named types access o c found s)
   free_in_sits access o c on_null s bare h = h
   free_in_sits access o c on_gone s bare h = tt
@@ -353,23 +354,23 @@ module _ (forms : List TypeForm) (still own : ℕ → Bool) (b : Bool) (types : 
       let own_number = counted.0 in
       absurd (omega (arith, below, own_number, home))
 
-  existing_bare : (x : Object) (stage : Stage) → holds_parts forms x.cell.access ≡ false → FoundIsBare (existing x stage)
+  existing_bare : (x : Object) (stage : Stage) → holds_parts forms x.cell.access ≡ false → FoundIsBare forms (existing x stage)
   existing_bare x Building bare = bare
   existing_bare x Existing bare = bare
   existing_bare x Gone bare = tt
 
   picked_bare : (heap : List Object) (item : Item) (others : List Item) (i : ℕ) → Counted (item ∷ others) → Housed heap (item ∷ others) → IsOwned forms still own b item.owned
-      → b ≡ true → FoundIsBare (look heap (slice_index_or (members heap item.number) i Null))
+      → b ≡ true → FoundIsBare forms (look heap (slice_index_or (members heap item.number) i Null))
   picked_bare heap item others i counted housed may within =
-      one_of (λ (v : Value). FoundIsBare (look heap v)) (members heap item.number) i tt
-      (all_members (λ (v : Value). FoundIsBare (look heap v)) item.number 0 heap (λ j x there member.
+      one_of (λ (v : Value). FoundIsBare forms (look heap v)) (members heap item.number) i tt
+      (all_members (λ (v : Value). FoundIsBare forms (look heap v)) item.number 0 heap (λ j x there member.
       let both = and_parts x.listed (x.cell.home.item == item.number) member in
       let same : 0 + j ≡ j = omega arith in
       let bare = existing_bare x x.stage (member_bare item others x counted may (housed (record { 0 = j }) x there both.0) (eqb-true x.cell.home.item item.number both.1) within) in
-      subst (λ (m : ℕ). FoundIsBare (look heap (Names (record { 0 = m })))) (sym same) (subst (λ (found : Option Object). FoundIsBare (seen found)) (sym there) bare)))
+      subst (λ (m : ℕ). FoundIsBare forms (look heap (Names (record { 0 = m })))) (sym same) (subst (λ (found : Option Object). FoundIsBare forms (seen found)) (sym there) bare)))
 
   -- A master is being left (7.6.1): its newest item goes, or an object is taken before that.
-  taken_sits : (cause : Cause) (pool : Option ℕ) (v : Value) (found : Found (Cell Value)) (s : State) → (b ≡ true → FoundIsBare found) → Rests forms still own b s
+  taken_sits : (cause : Cause) (pool : Option ℕ) (v : Value) (found : Found (Cell Value)) (s : State) → (b ≡ true → FoundIsBare forms found) → Rests forms still own b s
       → Rests forms still own b (taken_out named types cause pool v found s)
   taken_sits cause pool v on_null s none h = ((tt, (tt, h.0)), housed_on parted s.heap v (items_of s.masters) keeps_parted h.1)
   taken_sits cause pool v on_gone s none h = ((tt, (tt, h.0)), housed_on parted s.heap v (items_of s.masters) keeps_parted h.1)
@@ -397,7 +398,7 @@ module _ (forms : List TypeForm) (still own : ℕ → Bool) (b : Bool) (types : 
   members_sits mode cause pool m item items ms (v ∷ vs) s all empty counted h housed =
       λ i. let one = slice_index_or (v ∷ vs) i Null in
       taken_sits cause pool one (look s.heap one) (at (frame.Leaves mode ∷ s.control) (mastered (record { number = m; items = item ∷ items } ∷ ms) s))
-      (λ within. subst (λ (us : List Value). FoundIsBare (look s.heap (slice_index_or us i Null))) all
+      (λ within. subst (λ (us : List Value). FoundIsBare forms (look s.heap (slice_index_or us i Null))) all
       (picked_bare s.heap item (items ++ items_of ms) i counted housed h.0.0 within)) ((tt, h), housed)
 
   item_leave_sits : (mode : Mode) (m : ℕ) (item : Item) (items : List Item) (ms : List Master) (owned : Owned) (s : State) → item.owned ≡ owned

@@ -1,6 +1,6 @@
 -- The law.
 use Rattle.ada_still.specs.Law.{StandStillWhereStill}
-use Rattle.ada_still.proofs.Treats.{broken_off_sits}
+use Rattle.ada_still.proofs.Steps.{next_some}
 
 pub stand_still : StandStillWhereStill
-stand_still = broken_off_sits
+stand_still = next_some

@@ -8,5 +8,7 @@ pub mod Sits
 pub mod Forms
 -- objects are treated behind still bodies
 pub mod Treats
+-- each step
+pub mod Steps
 -- the law
 pub mod Law
