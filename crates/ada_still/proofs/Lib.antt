@@ -12,3 +12,5 @@ pub mod Treats
 pub mod Steps
 -- the law
 pub mod Law
+-- procedures that are found still in order
+pub mod Order

@@ -7,3 +7,8 @@ ghost use Rattle.ada_still.specs.Law.{CollectionsStandStill, StandStillWhereStil
 pub fn stand_still_where_still()
     ensures { StandStillWhereStill }
 {}
+
+/// So it is where the procedures that declare such collections are found still in the order in which they call each other.
+pub fn collections_stand_still()
+    ensures { CollectionsStandStill }
+{}
