@@ -14,3 +14,5 @@ pub mod Steps
 pub mod Law
 -- procedures that are found still in order
 pub mod Order
+-- the premise is met, and needed
+pub mod Example

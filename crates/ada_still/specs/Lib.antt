@@ -4,3 +4,5 @@
 pub mod Still
 -- the laws
 pub mod Law
+-- the premise is met, and needed
+pub mod Example

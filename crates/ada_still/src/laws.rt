@@ -1,5 +1,6 @@
 //! The laws of still bodies. Each is a function that does nothing, and whose contract is the theorem.
 
+ghost use Rattle.ada_still.specs.Example.{PremiseIsMet, PremiseIsNeeded};
 ghost use Rattle.ada_still.specs.Law.{CollectionsStandStill, StandStillWhereStill};
 
 /// While the collection of one of these access types is open, no treatment of controlled parts comes next, and no operation's body
@@ -11,4 +12,14 @@ pub fn stand_still_where_still()
 /// So it is where the procedures that declare such collections are found still in the order in which they call each other.
 pub fn collections_stand_still()
     ensures { CollectionsStandStill }
+{}
+
+/// The premise is met: a Finalize declares an access type, allocates an object of it, and comes to its end.
+pub fn premise_is_met()
+    ensures { PremiseIsMet }
+{}
+
+/// It is needed: where the Finalize declares an object of its own type besides, that is finalized while the collection is open.
+pub fn premise_is_needed()
+    ensures { PremiseIsNeeded }
 {}
