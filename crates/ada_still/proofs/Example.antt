@@ -1,10 +1,9 @@
 -- A Finalize declares an access type, and allocates an object of it; and one declares an object of its own type besides.
 
-use Rattle.std.proofs.Common.{◌≡◌, inl, inr, ℕ, zero, suc, ◌==◌, ◌&&◌, ◌||◌, Bool, true, false, List, [], ◌∷◌, ◌++◌, map, Option, refl, ap, arith, subst, sym}
+use Rattle.std.proofs.Common.{◌≡◌, inr, ℕ, zero, suc, ◌==◌, ◌&&◌, ◌||◌, Bool, true, false, List, [], ◌∷◌, ◌++◌, map, refl, ap, arith, subst, sym}
 use Rattle.std.specs.Prelude.{None, Some, pos}
 use Rattle.std.specs.List.{slice_get, slice_index_or, list_all}
 use Rattle.ada_program.specs.declared.program.ComponentKind.TheVariants as kind
-use Rattle.ada_program.specs.declared.program.Declaration.{Declaration}
 use Rattle.ada_program.specs.declared.program.Declaration.TheVariants as declaration
 use Rattle.ada_program.specs.declared.program.FormalMode.TheVariants.{InOut}
 use Rattle.ada_program.specs.declared.program.Operations.{Operations}
@@ -16,7 +15,7 @@ use Rattle.ada_program.specs.declared.program.TypeDefinition.{TypeDefinition}
 use Rattle.ada_program.specs.declared.program.TypeDefinition.TheVariants as definition
 use Rattle.ada_program.specs.declared.program.Variable.{Variable}
 use Rattle.ada_program.specs.declared.program.VariableKind.TheVariants as variable
-use Rattle.ada_program.specs.Form.{expression_form, stmt_form, right_form, skips, allocates_default, collects, declares, declares_record, DeclarationForm, StmtsForm, no_stmts, a_stmt, no_handlers, stmt_forms, statement_rules}
+use Rattle.ada_program.specs.Form.{expression_form, stmt_form, skips, allocates_default, collects, declares, declares_record, DeclarationForm, StmtsForm, no_stmts, a_stmt, no_handlers, stmt_forms, statement_rules}
 use Rattle.ada_program.specs.Freed.{statements_free_own, body_frees_own, FreesItsOwn}
 use Rattle.ada_program.specs.ProgramForm.{BodyForm, variable_form, body_forms, program_form}
 use Rattle.ada_program.specs.WellFormed.{IsWellFormed, created_in_all, creates_from, has_collections, profile_of, have_operations, bodies_fit, stmts_fit}
@@ -30,7 +29,7 @@ use Rattle.ada_order.specs.Example.{InSomeRun}
 use Rattle.ada_order.proofs.Choices.{run_by}
 use Rattle.ada_scopes.proofs.RecursionExample as recurring
 use Rattle.ada_scopes.proofs.Example.{steps, vec, no_name, cell_of, access_to, creations_with, no_pools}
-use Rattle.ada_still.specs.Still.{stmts_keep, bounds_without, still_from, collects_none, CollectStill}
+use Rattle.ada_still.specs.Still.{stmts_keep, bounds_without, still_from, CollectStill}
 use Rattle.ada_still.specs.Law.{IsOther, AreOther, is_treatment, TreatsWhereNoneIsOpen, TreatsElsewhere}
 use Rattle.ada_still.specs.Example.{AllocatesInOperation, PremiseIsMet, PremiseIsNeeded}
 

@@ -1,6 +1,6 @@
 -- Whatever a run comes to sits in still bodies, or behind them: so nothing is treated while they have a collection open.
 
-use Rattle.std.proofs.Common.{◌≡◌, inl, inr, ℕ, ℤ, Bool, true, false, List, [], ◌∷◌, ◌++◌, Option, Some, None, refl, sym, ap, ◌∙◌, subst}
+use Rattle.std.proofs.Common.{◌≡◌, inl, inr, ℕ, ℤ, Bool, true, false, List, [], ◌∷◌, ◌++◌, Some, None, refl, ap, ◌∙◌, subst}
 use Rattle.std.specs.List.{slice_get}
 use Rattle.ada_program.specs.declared.program.Program.{Program}
 use Rattle.ada_program.specs.Form.{frees, a_stmt, declaration_forms, stmt_forms, handler_forms}
@@ -10,7 +10,6 @@ use Rattle.ada_program.specs.WellFormed.{IsWellFormed}
 use Rattle.ada_meaning.specs.declared.state.Id.{Id}
 use Rattle.ada_meaning.specs.declared.state.Mode.TheVariants.{Running}
 use Rattle.ada_meaning.specs.declared.state.Value.{Value}
-use Rattle.ada_meaning.specs.declared.state.Value.TheVariants.{Names}
 use Rattle.ada_meaning.specs.Frame.{Frame}
 use Rattle.ada_meaning.specs.Frame as frame
 use Rattle.ada_meaning.specs.State.{Owned, declared, collection, record_object, storage_pool, Item, Master}
@@ -20,7 +19,7 @@ use Rattle.ada_order.proofs.Controls.{Plain, Stands, plainly, leaving}
 use Rattle.ada_order.proofs.Orders.{Kept, kept_first, step_keeps}
 use Rattle.ada_typed.specs.Freeing.{AboutToFree}
 use Rattle.ada_typed.proofs.Freeing.{objects_are_freed_by_their_types}
-use Rattle.ada_still.specs.Still.{body_keeps, still_bounds, CollectWhereStill}
+use Rattle.ada_still.specs.Still.{CollectWhereStill}
 use Rattle.ada_still.specs.Law.{IsOther, AreOther, NoneOpen, TreatsWhereNoneIsOpen, StandStillWhereStill}
 use Rattle.ada_still.proofs.Coming.{led_next}
 use Rattle.ada_still.proofs.Sits.{not_true, BodyFits, IsOwned, AreOwned, Sits, SomeRests, part_keeps}
@@ -52,8 +51,8 @@ module _ (program : Program) (well : IsWellFormed (program_form program)) (frees
   fits : (procedure : ℕ) (body : BodyForm) → slice_get (body_forms program) procedure ≡ Some body → BodyFits (program_form program).types still own false body
   fits procedure body at_body =
       elim (collect.bodies procedure body at_body) [
-        inl none ↦ inl none
-      | inr is ↦ inr (collect.keeps procedure body at_body is)
+        | inl none ↦ inl none
+        | inr is ↦ inr (collect.keeps procedure body at_body is)
       ]
 
   step_some : (events : List Event) (s after : State) (choice : Choice) (e : Event) → Run program (first_state program input) events s → Kept program.types.items s

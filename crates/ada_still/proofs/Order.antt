@@ -1,12 +1,12 @@
 -- Procedures that are found still in the order in which they call each other are so: what each may do, it may do where more procedures are known to be still.
 
-use Rattle.std.proofs.Common.{◌≡◌, inl, inr, ℕ, zero, suc, ◌+◌, Bool, true, false, ◌&&◌, List, [], ◌∷◌, ◌++◌, length, Option, Some, None, refl, sym, ap, ◌∙◌, subst, arith, append-nil}
+use Rattle.std.proofs.Common.{◌≡◌, ℕ, zero, suc, ◌+◌, Bool, true, false, ◌&&◌, List, [], ◌∷◌, ◌++◌, length, Some, refl, sym, ap, ◌∙◌, subst, arith, append-nil}
 use Rattle.std.specs.List.{slice_get, slice_index_or}
 use Rattle.std.proofs.lemmas.Bool.{and_from, and_parts}
 use Rattle.std.proofs.lemmas.List.{append_assoc}
 use Rattle.ada_program.specs.Form.{RightForm, nothing, value_of, allocates, allocates_default, computes, StmtForm, skips, assigns, assigns_record, frees, gets, writes, writes_text, chooses, repeats, counts, exits, calls, returns, raises, encloses, StmtsForm, no_stmts, a_stmt, BranchesForm, otherwise, a_branch, HandlersForm, no_handlers, a_handler, DeclarationForm, creates_pool, collects, declares, declares_record}
-use Rattle.ada_program.specs.ProgramForm.{TypeForm, BodyForm, ProgramForm, program_form}
-use Rattle.ada_still.specs.Still.{Bounds, right_keeps, declaration_keeps, declarations_keep, stmt_keeps, stmts_keep, branches_keep, handlers_keep, body_keeps, still_bounds, is_still_body, still_from, is_still, CollectWhereStill, CollectStill}
+use Rattle.ada_program.specs.ProgramForm.{TypeForm, BodyForm, program_form}
+use Rattle.ada_still.specs.Still.{Bounds, right_keeps, declaration_keeps, declarations_keep, stmt_keeps, stmts_keep, branches_keep, handlers_keep, still_bounds, is_still_body, still_from, is_still}
 use Rattle.ada_still.specs.Law.{CollectionsStandStill}
 use Rattle.ada_still.proofs.Law.{stand_still}
 

@@ -1,6 +1,6 @@
 -- Each step leads to what sits in still bodies, or behind them, whatever is answered (7.6).
 
-use Rattle.std.proofs.Common.{inl, inr, ◌+◌, ◌&&◌, sym, subst, ◌≡◌, ℕ, ℤ, Bool, true, false, if◌then◌else◌, List, [], ◌∷◌, length, map, Option, Some, None, refl}
+use Rattle.std.proofs.Common.{inl, inr, ◌+◌, ◌&&◌, sym, subst, ◌≡◌, ℕ, ℤ, Bool, true, false, if◌then◌else◌, List, [], ◌∷◌, map, Option, Some, None, refl}
 use Rattle.std.specs.Prelude.{int_le}
 use Rattle.ada_program.specs.declared.program.TypeDefinition.{TypeDefinition}
 use Rattle.ada_program.specs.declared.program.Exception.{Exception}
@@ -11,7 +11,6 @@ use Rattle.ada_program.specs.Typed.{pool_named}
 use Rattle.ada_program.specs.Handling.{some_takes, handler_of}
 use Rattle.ada_parts.specs.declared.tasks.Direction.TheVariants.{PartsFirst, WholeFirst}
 use Rattle.ada_parts.specs.Task.{next as task_next}
-use Rattle.ada_meaning.specs.declared.event.Birth.{Birth}
 use Rattle.ada_meaning.specs.declared.event.Birth.TheVariants.{Creation, Copy, Adjustment}
 use Rattle.ada_meaning.specs.declared.event.Cause.TheVariants.{Assigning}
 use Rattle.ada_meaning.specs.declared.state.Id.{Id}
@@ -27,7 +26,7 @@ use Rattle.ada_meaning.specs.Frame.{Frame, is_master, is_loop, is_return, Landin
 use Rattle.ada_meaning.specs.Frame as frame
 use Rattle.ada_meaning.specs.Heap.{Cell, Found, on_null, on_gone, on_other, finds}
 use Rattle.ada_meaning.specs.State.{Activation, declared, collection, storage_pool, Item, Master, height, home_of, pools_in, pool_for}
-use Rattle.ada_meaning.specs.Step.{first_or, places_of, operands_of, record_tasks, treating, assigns_next, resumed, returned, references_in, operand_count, moves, has_parts, all_tasks, at, popped, held, newest, newest_ones, without_newest, initial_values, record_cell, made, record_next, storing, assign_next, target_next, stored_next, store_next, frees_next, branches_next, decided_next, turn_next, repeats_next, turned_next, count_turn_next, ranges_next, gets_next, received_next, receive_next, exit_next, exited_next, computing, call_next, stmt_next, stmts_next, line_next, declarations_next, frame_next, left_by, unwound, landed, pass_next, running_next, jump_next, mode_next}
+use Rattle.ada_meaning.specs.Step.{first_or, places_of, operands_of, record_tasks, treating, assigns_next, resumed, returned, references_in, operand_count, moves, has_parts, at, popped, held, newest, newest_ones, without_newest, initial_values, record_next, storing, assign_next, target_next, stored_next, store_next, frees_next, branches_next, decided_next, turn_next, repeats_next, turned_next, count_turn_next, ranges_next, gets_next, received_next, receive_next, exit_next, exited_next, computing, call_next, stmt_next, stmts_next, line_next, declarations_next, frame_next, landed, pass_next, running_next, jump_next, mode_next}
 use Rattle.ada_meaning.specs.Named.{Object, State, Next, next, whole, base, part_base, same, object_at, existing, seen, all_alive, standing_by, filled, named, look, lent, standing, reads_boolean, reads_null, reads_integer, an_integer, unary_given, binary_given}
 use Rattle.std.specs.List.{slice_get, slice_index_or}
 use Rattle.std.proofs.lemmas.Bool.{and_parts}
@@ -101,6 +100,7 @@ look_there heap (Names o) cell is = by (object_at heap o) refl is
     staged x Building there is = (o, x, refl, there, cc is)
     staged x Existing there is = (o, x, refl, there, cc is)
     staged x Gone there is = absurd (cc is)
+
     by : (found : Option Object) → object_at heap o ≡ found → seen found ≡ finds cell
         → (p : Id) × (y : Object) × (Names o ≡ Names p) × (object_at heap p ≡ Some y) × (y.cell ≡ cell)
     by None there is = absurd (cc is)
@@ -117,6 +117,7 @@ module _ (forms : List TypeForm) where
       stands : (x : Object) (there : Bool) → holds_parts forms x.cell.access ≡ false → FoundIsBare forms (if there then finds x.cell else on_gone)
       stands x true bare = bare
       stands x false bare = tt
+
       by : (found : Option Object) → object_at heap o ≡ found → FoundIsBare forms (standing_by found)
       by None is = tt
       by (Some x) is = stands x (x.listed && all_alive x.cell.parts) (subst (λ (t : ℕ). holds_parts forms t ≡ false) (sym (of o x refl is)) none)
@@ -319,8 +320,7 @@ module _ (forms : List TypeForm) (still own : ℕ → Bool) (b : Bool) (types : 
   assigns_sits t target source (Some false) s outside h =
       let o = whole target in
       let beginning = frame.begins (Adjustment s.next) [] in
-      let begun = record_tasks types t PartsFirst (part_base target) in
-      (
+      let begun = record_tasks types t PartsFirst (part_base target) in (
         treats_behind forms still own b types bodies fits o (frame.ends (Assigning s.next)) (record_tasks types t WholeFirst (part_base target))
             (frame.Copies (base source) t ∷ frame.StoresRecord o (base target) (width_of types t) ∷ treating o beginning begun s.control) s outside
             (tt, (tt, treats_behind forms still own b types bodies fits o beginning begun s.control s outside h.0)),

@@ -1,6 +1,6 @@
 -- Behind still bodies objects are treated, and operations called (7.6, 7.6.1): in front of what is behind them their bodies are still, or like that.
 
-use Rattle.std.proofs.Common.{◌≡◌, inl, inr, ℕ, ◌==◌, Bool, true, false, if◌then◌else◌, List, [], ◌∷◌, map, Option, Some, None, refl, sym, subst}
+use Rattle.std.proofs.Common.{◌≡◌, ℕ, ◌==◌, Bool, true, false, if◌then◌else◌, List, [], ◌∷◌, map, Option, Some, None, refl, sym, subst}
 use Rattle.std.specs.List.{slice_get}
 use Rattle.ada_program.specs.declared.program.TypeDefinition.{TypeDefinition}
 use Rattle.ada_program.specs.declared.program.Exception.{Exception}
@@ -49,7 +49,7 @@ module _ (forms : List TypeForm) (still own : ℕ → Bool) (b : Bool) (types : 
   operation_sits procedure None reference behind event s at_body outside h housed = tt
   operation_sits procedure (Some body) reference behind event s at_body outside h housed =
       let begun = body_begins forms still own b body [] [] behind s.next s.masters
-          (subst (λ (c : Bool). BodyFits forms still own c body) (sym outside) (fits procedure body at_body)) h in
+      (subst (λ (c : Bool). BodyFits forms still own c body) (sym outside) (fits procedure body at_body)) h in
       (begun.0, (begun.1, housed))
 
   -- An object is treated behind still bodies.

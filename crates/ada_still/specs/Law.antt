@@ -3,7 +3,7 @@
 use Rattle.std.specs.Prelude.{◌≡◌, ℕ, ℤ, Bool, true, false, if◌then◌else◌, List, [], ◌∷◌}
 use Rattle.ada_program.specs.declared.program.Program.{Program}
 use Rattle.ada_program.specs.Freed.{FreesItsOwn}
-use Rattle.ada_program.specs.ProgramForm.{ProgramForm, program_form}
+use Rattle.ada_program.specs.ProgramForm.{program_form}
 use Rattle.ada_program.specs.WellFormed.{IsWellFormed}
 use Rattle.ada_meaning.specs.declared.state.Value.{Value}
 use Rattle.ada_meaning.specs.Frame.{Frame}
