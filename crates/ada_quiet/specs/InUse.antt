@@ -84,9 +84,14 @@ adjusts_nothing p = not (copies_parts p) && operations_stand_in_order p
 abbrev pub tracks_nothing : ProgramForm → Bool
 tracks_nothing p = leave_access p.types
 
--- An Adjust may be frugal in a program in which an Initialize and a Finalize may be, and no Adjust tracks.
+-- Where a part of a copy is adjusted that tracks nothing, nothing in the copy is tracked: no Adjust of the program tracks, or each record has one controlled
+-- part at most, which is that one.
+abbrev pub tracks_beside_none : ProgramForm → Bool
+tracks_beside_none p = tracks_nothing p || adjusts_alone p
+
+-- An Adjust that does not track may be frugal in a program in which an Initialize and a Finalize may be, and none tracks beside it.
 abbrev pub may_adjust_frugally : ProgramForm → Bool
-may_adjust_frugally p = may_be_frugal p && tracks_nothing p
+may_adjust_frugally p = may_be_frugal p && tracks_beside_none p
 
 -- Where one may be called, Adjust is simple, where it may track, if a body overrides it of a type that declares a component of an access type directly (3.10,
 -- 7.6): behind it that component of a copy holds a value of its own, or null. It frees nothing where a record has two controlled parts: what the one that is

@@ -185,8 +185,16 @@ pub(crate) fn leave_access(types: &[TypeDefinition]) -> bool
 }
 
 /// Whether no Adjust of a program tracks. Linear in the types and their components.
-pub(crate) fn tracks_nothing(program: &Program) -> bool
+fn tracks_nothing(program: &Program) -> bool
     ensures { result ≡ rules.tracks_nothing (program_form program.now) }
 {
     leave_access(&program.types)
+}
+
+/// Whether nothing in a copy is tracked where a part of it is adjusted that tracks nothing: none of the program tracks, or each record has
+/// one controlled part at most, which is that one. Linear in the types and their components.
+pub(crate) fn tracks_beside_none(program: &Program) -> bool
+    ensures { result ≡ rules.tracks_beside_none (program_form program.now) }
+{
+    tracks_nothing(program) || adjusts_alone(program)
 }

@@ -11,7 +11,7 @@ use crate::idle::adjusts_nothing;
 use crate::operations::{
     is_frugal_operation, is_overridden, is_plain_operation, is_quiet_operation, is_simple_operation,
 };
-use crate::tracking::{adjusts_alone, may_track, tracks_nothing};
+use crate::tracking::{adjusts_alone, may_track, tracks_beside_none};
 use ada_program::{ProcedureNo, Program};
 use std::alloc::{AllocError, Global};
 
@@ -33,7 +33,7 @@ pub(crate) struct Allowed {
     pub(crate) frugal: bool,
     /// Whether no Adjust is called, and one may be frugal.
     pub(crate) nothing: bool,
-    /// Whether an Adjust that may be called may be frugal.
+    /// Whether an Adjust that may be called, and does not track, may be frugal.
     pub(crate) freely: bool,
     /// Whether an Adjust may track.
     pub(crate) tracks: bool,
@@ -54,7 +54,7 @@ pub(crate) fn allowed_in(alloc: Global, program: &Program) -> Result<Allowed, Al
 {
     let frugal = may_be_frugal(alloc, program)?;
     let nothing = adjusts_nothing(alloc, program)?;
-    let freely = frugal && tracks_nothing(program);
+    let freely = frugal && tracks_beside_none(program);
     let tracks = may_track(program, frugal);
     let alone = adjusts_alone(program);
     Ok(Allowed {

@@ -84,7 +84,7 @@ module _
 -- object may raise, and of an Adjust or a Finalize nothing (7.6, 7.6.1).
 pub touches_let :
     (program : Program) → IsWellFormed (program_form program) → LetsNothingOut (program_form program) → makes_parts (program_form program) ≡ true → (access of part number : ℕ) (b : BodyForm) → IsOperable (program_form program).types access of part
-    → (treatment : Treatment) → MayTouch (program_form program) treatment → IsCalled (operations_of program.types.items of) treatment number → slice_get (body_forms program) number ≡ Some b
+    → (treatment : Treatment) → MayTouch (program_form program) number treatment → IsCalled (operations_of program.types.items of) treatment number → slice_get (body_forms program) number ≡ Some b
     → (e : Exception) → body_among (implicit_of (program_form program)) (seen_in (Some number) (program_form program)) e ≡ true → lets_out (implicit_of (program_form program)) access treatment e ≡ true
 touches_let program well none_out made access of part number b operable (begins Creation done) may called there e among = starts_let program well access of part number b operable there e among called
 touches_let program well none_out made access of part number b operable (begins Copy done) may called there e among =

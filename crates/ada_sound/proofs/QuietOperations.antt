@@ -16,17 +16,17 @@ use Rattle.ada_program.specs.declared.program.TypeDefinition.TheVariants as defi
 use Rattle.ada_program.specs.Controlled.{number_in, is_number, number_by, operations_by, operations_in, operations_of, procedure_number}
 use Rattle.ada_program.specs.Form.{StmtForm, skips, assigns, assigns_record, frees, gets, writes, writes_text, chooses, repeats, counts, exits, calls, returns, raises, encloses, StmtsForm, no_stmts, a_stmt, BranchesForm, otherwise, a_branch, HandlersForm, no_handlers, a_handler, DeclarationForm, creates_pool, collects, declares, declares_record}
 use Rattle.ada_program.specs.Nested.{Callees, collected, record_objects, part_nests, statement_nests, statements_nest, branches_nest, handlers_nest, body_nests, call_nests, callees_from, callees_of}
-use Rattle.ada_program.specs.ProgramForm.{TypeForm, VariableForm, BodyForm, ProgramForm, type_form, program_form, body_forms, seen_in}
+use Rattle.ada_program.specs.ProgramForm.{TypeForm, VariableForm, BodyForm, ProgramForm, type_form, main_body, program_form, body_forms, seen_in}
 use Rattle.ada_program.specs.WellFormed.{IsWellFormed, is_access, profile_of, callable_in, finalization_in, is_inherited, is_operation, overrides_rightly, has_operations, have_operations}
 use Rattle.ada_effects.specs.Effects.{no_calls, body_raises}
 use Rattle.ada_flow.specs.Flow.{have_exit, handlers_have_exit}
 use Rattle.ada_typed.proofs.Bodies.{seen_as, seen_fits}
 use Rattle.ada_scopes.proofs.Lacked.{kinds_open}
 use Rattle.ada_scopes.specs.Scopes.{NestsWhereOpen, AllNestWhereOpen, OperationsNest}
-use Rattle.ada_quiet.specs.Apart.{is_this_one, is_adjust_of, leaves_access}
+use Rattle.ada_quiet.specs.Apart.{body_calls_apart, is_this_one, is_adjust_of, is_tracker, leaves_access, operations_apart, overrides_apart}
 use Rattle.ada_quiet.specs.Quiet.{is_quiet_stmt, are_quiet, are_quiet_branches, are_quiet_handlers, are_quiet_declarations, is_plain_body, is_quiet_body, is_plain_procedure, is_quiet_procedure, is_plain_operation, is_quiet_operation, has_access, operation_body}
 use Rattle.ada_quiet.specs.Frugal.{is_frugal_body, frugal_operations, thrift_of, is_frugal_operation}
-use Rattle.ada_quiet.specs.InUse.{may_adjust_frugally, tracks_nothing, may_be_frugal, uses_initialize, uses_finalize, uses_operations, operations_may_be_called, adjusts_alone, adjusts_nothing, may_track, uses_adjust, uses_called_adjust}
+use Rattle.ada_quiet.specs.InUse.{may_adjust_frugally, tracks_beside_none, tracks_nothing, may_be_frugal, uses_initialize, uses_finalize, uses_operations, operations_may_be_called, adjusts_alone, adjusts_nothing, may_track, uses_adjust, uses_called_adjust}
 use Rattle.ada_quiet.specs.Idle.{copies_parts}
 use Rattle.ada_quiet.specs.Simple.{is_simple_body, is_simple_procedure, is_simple_operation}
 use Rattle.ada_quiet.proofs.InUse.{plain_procedure, plain_operation}
@@ -145,15 +145,19 @@ module _ (p : ProgramForm) where
   abbrev pub IsSimple : ℕ → Type 0
   IsSimple number = (may_track p ≡ true) × (is_simple_procedure p.types (adjusts_alone p) (slice_get p.bodies number) ≡ true)
 
-  -- A procedure is frugal, and nothing tracks in the program.
+  -- A procedure is frugal, and no Adjust tracks beside one that does not.
   abbrev pub IsFreelyFrugal : ℕ → Type 0
-  IsFreelyFrugal number = (tracks_nothing p ≡ true) × IsFrugal number × IsNotQuiet number
+  IsFreelyFrugal number = (tracks_beside_none p ≡ true) × IsFrugal number × IsNotQuiet number
 
-  -- What overrides Initialize is plain or frugal, what overrides Adjust is quiet, or frugal where nothing tracks, or simple and of a type that owns, and what
-  -- overrides Finalize is quiet, or frugal.
+  -- Such a procedure does not track.
+  abbrev pub IsUntracked : ℕ → Type 0
+  IsUntracked number = IsFreelyFrugal number × (is_tracker p number ≡ false)
+
+  -- What overrides Initialize is plain or frugal, what overrides Adjust is quiet, or frugal where none tracks beside it, or simple and of a type that owns, and
+  -- what overrides Finalize is quiet, or frugal.
   record AreUsed (Owns : Type 0) (o : Operations) (number : ℕ) : Type 0 where
     initializes : procedure_number o.initialize ≡ Some number → IsPlain number ⊎ (IsFrugal number × IsNotPlain number)
-    adjusts : copies_parts p ≡ true → procedure_number o.adjust ≡ Some number → IsQuiet number ⊎ (IsFreelyFrugal number ⊎ (IsSimple number × Owns))
+    adjusts : copies_parts p ≡ true → procedure_number o.adjust ≡ Some number → IsQuiet number ⊎ (IsUntracked number ⊎ (IsSimple number × Owns))
     finalizes : procedure_number o.finalize ≡ Some number → IsQuiet number ⊎ (IsFrugal number × IsNotQuiet number)
     -- whether an Adjust may be called or not, it is quiet, or frugal, or of a type that owns
     overrides_adjust : procedure_number o.adjust ≡ Some number → IsQuiet number ⊎ ((slice_index_or (frugal_operations p) number false ≡ true) ⊎ Owns)
@@ -199,21 +203,43 @@ module _ (p : ProgramForm) where
   pub called_adjust : (owns : Bool) (o : Option ProcedureNo) → copies_parts p ≡ true → uses_adjust p owns o ≡ true → uses_called_adjust p owns o ≡ true
   called_adjust owns o copies uses = rw copies at uses
 
-  pub adjust_one : (owns : Bool) (o : Option ProcedureNo) (number : ℕ) → uses_called_adjust p owns o ≡ true → procedure_number o ≡ Some number → IsQuiet number ⊎ (IsFreelyFrugal number ⊎ (IsSimple number × (owns ≡ true)))
+  -- What is frugal has a body.
+  has_body : (bs : List BodyForm) (number : ℕ) → slice_index_or (map (is_frugal_body (thrift_of p)) bs) number false ≡ true → is_some (slice_get bs number) ≡ true
+  has_body [] number frugal = absurd (cc frugal)
+  has_body (b ∷ bs) zero frugal = refl
+  has_body (b ∷ bs) (suc number) frugal = has_body bs number frugal
+
+  -- What is frugal overrides an Adjust of a type without a component of an access type, if it is not asked to be simple.
+  owns_none : (owns : Bool) (o : Option ProcedureNo) (number : ℕ) → (owns && is_some (operation_body p o)) ≡ false → is_frugal_operation p o ≡ true
+      → procedure_number o ≡ Some number → owns ≡ false
+  owns_none false o number none frugal is = refl
+  owns_none true None number none frugal is = absurd (cc is)
+  owns_none true (Some procedure) number none frugal is = let some = has_body p.bodies procedure.0 frugal in absurd (cc (none, some))
+
+  -- One of such a type does not track, where operations stand apart.
+  tracks_none : (owns : Bool) (o : Option ProcedureNo) (number : ℕ) → owns ≡ false → (owns || overrides_apart (is_tracker p) o) ≡ true
+      → procedure_number o ≡ Some number → is_tracker p number ≡ false
+  tracks_none true o number none stands is = absurd (cc none)
+  tracks_none false None number none stands is = absurd (cc is)
+  tracks_none false (Some procedure) number none stands is =
+      let same : procedure.0 ≡ number = cc is in not-true (is_tracker p number) (rw same at stands)
+
+  pub adjust_one : (owns : Bool) (o : Option ProcedureNo) (number : ℕ) → uses_called_adjust p owns o ≡ true → procedure_number o ≡ Some number → IsQuiet number ⊎ ((IsFreelyFrugal number × (owns ≡ false)) ⊎ (IsSimple number × (owns ≡ true)))
   adjust_one owns o number uses is = by (owns && is_some (operation_body p o)) refl uses
     where
-      freely : (quiet : Bool) → is_quiet_operation p o ≡ quiet → (quiet || (may_adjust_frugally p && is_frugal_operation p o)) ≡ true
-          → IsQuiet number ⊎ (IsFreelyFrugal number ⊎ (IsSimple number × (owns ≡ true)))
-      freely true quiet uses' = inl (quiet_one o number quiet is)
-      freely false quiet uses' =
+      freely : (owns && is_some (operation_body p o)) ≡ false → (quiet : Bool) → is_quiet_operation p o ≡ quiet
+          → (quiet || (may_adjust_frugally p && is_frugal_operation p o)) ≡ true
+          → IsQuiet number ⊎ ((IsFreelyFrugal number × (owns ≡ false)) ⊎ (IsSimple number × (owns ≡ true)))
+      freely none true quiet uses' = inl (quiet_one o number quiet is)
+      freely none false quiet uses' =
           let both = apart (may_adjust_frugally p) (is_frugal_operation p o) uses' in
-          let may = apart (may_be_frugal p) (tracks_nothing p) both.0 in
-          inr (inl (may.1, (may.0, frugal_one o number both.1 is), not_quiet o number quiet is))
+          let may = apart (may_be_frugal p) (tracks_beside_none p) both.0 in
+          inr (inl ((may.1, (may.0, frugal_one o number both.1 is), not_quiet o number quiet is), owns_none owns o number none both.1 is))
 
       by : (tracks : Bool) → (owns && is_some (operation_body p o)) ≡ tracks
           → (if tracks then may_track p && is_simple_operation p (adjusts_alone p) o else (is_quiet_operation p o || (may_adjust_frugally p && is_frugal_operation p o))) ≡ true
-          → IsQuiet number ⊎ (IsFreelyFrugal number ⊎ (IsSimple number × (owns ≡ true)))
-      by false so uses' = freely (is_quiet_operation p o) refl uses'
+          → IsQuiet number ⊎ ((IsFreelyFrugal number × (owns ≡ false)) ⊎ (IsSimple number × (owns ≡ true)))
+      by false so uses' = freely so (is_quiet_operation p o) refl uses'
       by true so uses' =
           let both = apart (may_track p) (is_simple_operation p (adjusts_alone p) o) uses' in
           inr (inr ((both.0, simple_one o number both.1 is), (apart owns (is_some (operation_body p o)) so).0))
@@ -223,10 +249,10 @@ module _ (p : ProgramForm) where
       → IsQuiet number ⊎ ((slice_index_or (frugal_operations p) number false ≡ true) ⊎ (owns ≡ true))
   any_adjust owns o number uses is = either (or_cases (adjusts_nothing p && is_frugal_operation p o) (uses_called_adjust p owns o) uses)
     where
-      by : IsQuiet number ⊎ (IsFreelyFrugal number ⊎ (IsSimple number × (owns ≡ true)))
+      by : IsQuiet number ⊎ ((IsFreelyFrugal number × (owns ≡ false)) ⊎ (IsSimple number × (owns ≡ true)))
           → IsQuiet number ⊎ ((slice_index_or (frugal_operations p) number false ≡ true) ⊎ (owns ≡ true))
       by (inl quiet) = inl quiet
-      by (inr (inl freely)) = inr (inl freely.1.1)
+      by (inr (inl freely)) = inr (inl freely.0.1.1)
       by (inr (inr simple)) = inr (inr simple.1)
 
       either : ((adjusts_nothing p && is_frugal_operation p o) ≡ true) ⊎ (uses_called_adjust p owns o ≡ true)
@@ -241,9 +267,10 @@ module _ (p : ProgramForm) where
       by true plain uses' = inl (plain_one o number plain is)
       by false plain uses' = let both = apart (may_be_frugal p) (is_frugal_operation p o) uses' in inr ((both.0, frugal_one o number both.1 is), not_plain o number plain is)
 
-  three_used : (Owns : Type 0) (owns : Bool) (f : Option Finalization) (number : ℕ) → (owns ≡ true → is_adjust_of number f ≡ true → Owns) → uses_operations p owns f ≡ true → AreUsed Owns (operations_in f) number
-  three_used Owns owns None number own uses = record { initializes = λ is. absurd (cc is); adjusts = λ copies is. absurd (cc is); finalizes = λ is. absurd (cc is); overrides_adjust = λ is. absurd (cc is) }
-  three_used Owns owns (Some f) number own uses =
+  three_used : (Owns : Type 0) (owns : Bool) (f : Option Finalization) (number : ℕ) → (owns ≡ true → is_adjust_of number f ≡ true → Owns)
+      → (may_be_frugal p ≡ true → operations_apart (is_tracker p) owns f ≡ true) → uses_operations p owns f ≡ true → AreUsed Owns (operations_in f) number
+  three_used Owns owns None number own stands uses = record { initializes = λ is. absurd (cc is); adjusts = λ copies is. absurd (cc is); finalizes = λ is. absurd (cc is); overrides_adjust = λ is. absurd (cc is) }
+  three_used Owns owns (Some f) number own stands uses =
       let three = apart _ _ uses in
       let two = apart _ _ three.0 in
       record {
@@ -259,35 +286,45 @@ module _ (p : ProgramForm) where
       owned is (inr (inl frugal)) = inr (inl frugal)
       owned is (inr (inr owns')) = inr (inr (own owns' (this_one f.operations.adjust number is)))
 
-      by : procedure_number f.operations.adjust ≡ Some number → IsQuiet number ⊎ (IsFreelyFrugal number ⊎ (IsSimple number × (owns ≡ true)))
-          → IsQuiet number ⊎ (IsFreelyFrugal number ⊎ (IsSimple number × Owns))
+      left : may_be_frugal p ≡ true → (owns || overrides_apart (is_tracker p) f.operations.adjust) ≡ true
+      left may = (apart (overrides_apart (is_tracker p) f.operations.initialize) _ (apart _ (overrides_apart (is_tracker p) f.operations.finalize) (stands may)).0).1
+
+      by : procedure_number f.operations.adjust ≡ Some number → IsQuiet number ⊎ ((IsFreelyFrugal number × (owns ≡ false)) ⊎ (IsSimple number × (owns ≡ true)))
+          → IsQuiet number ⊎ (IsUntracked number ⊎ (IsSimple number × Owns))
       by is (inl quiet) = inl quiet
-      by is (inr (inl freely)) = inr (inl freely)
+      by is (inr (inl freely)) =
+          inr (inl (freely.0, tracks_none owns f.operations.adjust number freely.1 (left freely.0.1.0) is))
       by is (inr (inr simple)) = inr (inr (simple.0, own simple.1 (this_one f.operations.adjust number is)))
 
   none_used : (Owns : Type 0) (number : ℕ) → AreUsed Owns (operations_in None) number
-  none_used Owns number = three_used Owns false None number (λ owns is. absurd (cc owns)) refl
+  none_used Owns number = three_used Owns false None number (λ owns is. absurd (cc owns)) (λ may. refl) refl
 
   -- A type declares a component of an access type, and the procedure overrides its Adjust.
   abbrev OwnsIn : TypeForm → (number : ℕ) → Type 0
   OwnsIn t number = (has_access (Some t) ≡ true) × (is_adjust_of number (finalization_in (Some t)) ≡ true)
 
-  used_by : (Owns : Type 0) (t : TypeDefinition) (number : ℕ) → (OwnsIn (type_form t) number → Owns) → uses_operations p (has_access (Some (type_form t))) (finalization_in (Some (type_form t))) ≡ true
-      → AreUsed Owns (operations_by (Some t)) number
-  used_by Owns (definition.Record name parts components finalization) number own uses =
-      three_used Owns (has_access (Some (type_form (definition.Record name parts components finalization)))) finalization number (λ owns is. own (owns, is)) uses
-  used_by Owns (definition.Access name designated pool) number own uses = none_used Owns number
-  used_by Owns (definition.Object record_type) number own uses = none_used Owns number
+  -- Its operations stand apart.
+  abbrev StandsApart : TypeForm → Type 0
+  StandsApart t = operations_apart (is_tracker p) (has_access (Some t)) (finalization_in (Some t)) ≡ true
+
+  used_by : (Owns : Type 0) (t : TypeDefinition) (number : ℕ) → (OwnsIn (type_form t) number → Owns) → (may_be_frugal p ≡ true → StandsApart (type_form t))
+      → uses_operations p (has_access (Some (type_form t))) (finalization_in (Some (type_form t))) ≡ true → AreUsed Owns (operations_by (Some t)) number
+  used_by Owns (definition.Record name parts components finalization) number own stands uses =
+      three_used Owns (has_access (Some (type_form (definition.Record name parts components finalization)))) finalization number (λ owns is. own (owns, is)) stands uses
+  used_by Owns (definition.Access name designated pool) number own stands uses = none_used Owns number
+  used_by Owns (definition.Object record_type) number own stands uses = none_used Owns number
 
   -- What is found is the type of some number, and passes the test.
   used_found : (Owns : Type 0) (test : TypeDefinition → Bool) (types : List TypeDefinition) (number : ℕ)
       → ((i : ℕ) (t : TypeDefinition) → slice_get types i ≡ Some t → test t ≡ true → OwnsIn (type_form t) number → Owns)
+      → (may_be_frugal p ≡ true → list_all (λ t. operations_apart (is_tracker p) (has_access (Some t)) (finalization_in (Some t))) (map type_form types) ≡ true)
       → list_all (λ t. uses_operations p (has_access (Some t)) (finalization_in (Some t))) (map type_form types) ≡ true → AreUsed Owns (operations_by (find test types)) number
-  used_found Owns test [] number own uses = none_used Owns number
-  used_found Owns test (t ∷ types) number own uses = by (test t) refl (used_found Owns test types number (λ i u at. own (suc i) u at) (apart _ _ uses).1)
+  used_found Owns test [] number own stands uses = none_used Owns number
+  used_found Owns test (t ∷ types) number own stands uses =
+      by (test t) refl (used_found Owns test types number (λ i u at. own (suc i) u at) (λ may. (apart _ _ (stands may)).1) (apart _ _ uses).1)
     where
       by : (here : Bool) → test t ≡ here → AreUsed Owns (operations_by (find test types)) number → AreUsed Owns (operations_by (if here then Some t else find test types)) number
-      by true passes later = used_by Owns t number (own 0 t refl passes) (apart _ _ uses).0
+      by true passes later = used_by Owns t number (own 0 t refl passes) (λ may. (apart _ _ (stands may)).0) (apart _ _ uses).0
       by false fails later = later
 
   -- What overrides is there.
@@ -366,9 +403,9 @@ module _ (p : ProgramForm) where
   adjust_nests well t owns None right uses = tt
   adjust_nests well t owns (Some procedure) right uses = either (or_cases (adjusts_nothing p && is_frugal_operation p (Some procedure)) (uses_called_adjust p owns (Some procedure)) uses)
     where
-      by : IsQuiet procedure.0 ⊎ (IsFreelyFrugal procedure.0 ⊎ (IsSimple procedure.0 × (owns ≡ true))) → Nests (Some procedure)
+      by : IsQuiet procedure.0 ⊎ ((IsFreelyFrugal procedure.0 × (owns ≡ false)) ⊎ (IsSimple procedure.0 × (owns ≡ true))) → Nests (Some procedure)
       by (inl quiet) = plain_nests t (Some procedure) right (plain_operation p (Some procedure) quiet)
-      by (inr (inl freely)) = operation_nests p well procedure.0 freely.1.1
+      by (inr (inl freely)) = operation_nests p well procedure.0 freely.0.1.1
       by (inr (inr both)) =
           let b = there_one t (Some procedure) procedure.0 right refl in
           let simple = simple_with p.types (adjusts_alone p) b.0 (rw (b.1) at both.0.1) in
@@ -402,13 +439,17 @@ LetsNothingOut (begins Copy done) b = body_raises no_calls b (λ e. true) ≡ fa
 LetsNothingOut (begins (Adjustment number) done) b = body_raises no_calls b (λ e. true) ≡ false
 LetsNothingOut (ends cause) b = body_raises no_calls b (λ e. true) ≡ false
 
--- What is called for a new object, or for one that is finalized, may touch storage, and so may what is called for a copy, in a program that copies records
--- with controlled parts, and in which nothing tracks (7.6, 7.6.1).
-abbrev pub MayTouch : ProgramForm → Treatment → Type 0
-MayTouch p (begins Creation done) = Unit {0}
-MayTouch p (begins Copy done) = (tracks_nothing p ≡ true) × (copies_parts p ≡ true)
-MayTouch p (begins (Adjustment number) done) = (tracks_nothing p ≡ true) × (copies_parts p ≡ true)
-MayTouch p (ends cause) = Unit {0}
+-- A procedure does not track, and nothing in a copy is tracked beside one that does not.
+abbrev pub IsAdjustedFreely : ProgramForm → (number : ℕ) → Type 0
+IsAdjustedFreely p number = (tracks_beside_none p ≡ true) × (is_tracker p number ≡ false)
+
+-- What is called for a new object, or for one that is finalized, may touch storage, and so may what is called for a copy, if it does not track, in a program
+-- that copies records with controlled parts, and in which nothing tracks beside it (7.6, 7.6.1).
+abbrev pub MayTouch : ProgramForm → (number : ℕ) → Treatment → Type 0
+MayTouch p number (begins Creation done) = Unit {0}
+MayTouch p number (begins Copy done) = IsAdjustedFreely p number × (copies_parts p ≡ true)
+MayTouch p number (begins (Adjustment n) done) = IsAdjustedFreely p number × (copies_parts p ≡ true)
+MayTouch p number (ends cause) = Unit {0}
 
 -- What is called for a copy is an Adjust (7.6).
 abbrev pub AdjustsCopy : Treatment → Type 0
@@ -458,7 +499,7 @@ TouchesStorage p (ends cause) b = is_quiet_body p.types b ≡ false
 abbrev pub IsUsedAs : ProgramForm → (of number : ℕ) → Treatment → BodyForm → Type 0
 IsUsedAs p of number treatment b =
     (PlainBody p.types b × LetsNothingOut treatment b)
-    ⊎ ((MayTouch p treatment × (may_be_frugal p ≡ true) × (is_frugal_body (thrift_of p) b ≡ true) × TouchesStorage p treatment b)
+    ⊎ ((MayTouch p number treatment × (may_be_frugal p ≡ true) × (is_frugal_body (thrift_of p) b ≡ true) × TouchesStorage p treatment b)
     ⊎ (AdjustsCopy treatment × MayTrack p b × AdjustsOwn p.types of number))
 
 -- A type that passes the test of a number has that number among the controlled ones, as what is shown of it says.
@@ -487,8 +528,15 @@ module _ (program : Program) (uses : operations_may_be_called (program_form prog
     overrides = own.1;
   }
 
+  -- Where a body may be frugal, the operations of each type stand apart.
+  types_apart :
+      may_be_frugal whole ≡ true
+      → list_all (λ t. operations_apart (is_tracker whole) (has_access (Some t)) (finalization_in (Some t))) (map type_form program.types.items) ≡ true
+  types_apart may =
+      (apart (body_calls_apart whole.types (is_tracker whole) (main_body whole) && list_all (body_calls_apart whole.types (is_tracker whole)) whole.bodies) _ may).1
+
   used : AreUsed whole (AdjustsOwn whole.types of number) (operations_of program.types.items of) number
-  used = used_found whole (AdjustsOwn whole.types of number) (λ t. is_number of (number_by (Some t))) program.types.items number own_type uses
+  used = used_found whole (AdjustsOwn whole.types of number) (λ t. is_number of (number_by (Some t))) program.types.items number own_type types_apart uses
 
   plain_body : IsPlain whole number → PlainBody whole.types b
   plain_body plain =
@@ -511,11 +559,11 @@ module _ (program : Program) (uses : operations_may_be_called (program_form prog
   initializes_as done (inr both) = inr (inl (tt, both.0.0, operation_at whole number b both.0.1 there, rw there at both.1))
 
   adjusts_as : (treatment : Treatment) → AdjustsCopy treatment → (body_raises no_calls b (λ e. true) ≡ false → LetsNothingOut treatment b)
-      → (tracks_nothing whole ≡ true → MayTouch whole treatment) → (is_quiet_body whole.types b ≡ false → TouchesStorage whole treatment b)
-      → IsQuiet whole number ⊎ (IsFreelyFrugal whole number ⊎ (IsSimple whole number × AdjustsOwn whole.types of number)) → IsUsedAs whole of number treatment b
+      → (IsAdjustedFreely whole number → MayTouch whole number treatment) → (is_quiet_body whole.types b ≡ false → TouchesStorage whole treatment b)
+      → IsQuiet whole number ⊎ (IsUntracked whole number ⊎ (IsSimple whole number × AdjustsOwn whole.types of number)) → IsUsedAs whole of number treatment b
   adjusts_as treatment copies lets may touches (inl quiet) = let q = quiet_body quiet in inl (q.0, lets q.1)
-  adjusts_as treatment copies lets may touches (inr (inl (nothing, frugal, other))) =
-      inr (inl (may nothing, frugal.0, operation_at whole number b frugal.1 there, touches (rw there at other)))
+  adjusts_as treatment copies lets may touches (inr (inl ((beside, frugal, other), untracked))) =
+      inr (inl (may (beside, untracked), frugal.0, operation_at whole number b frugal.1 there, touches (rw there at other)))
   adjusts_as treatment copies lets may touches (inr (inr both)) = inr (inr (copies, (both.0.0, rw there at both.0.1), both.1))
 
   -- What overrides an Adjust is frugal where nothing tracks, whether it may be called or not: what is plain is so, too.
@@ -529,7 +577,7 @@ module _ (program : Program) (uses : operations_may_be_called (program_form prog
 
   pub used_as : (treatment : Treatment) → (AdjustsCopy treatment → copies_parts whole ≡ true) → IsCalled (operations_of program.types.items of) treatment number → IsUsedAs whole of number treatment b
   used_as (begins Creation done) copies called = initializes_as done (used.initializes called)
-  used_as (begins Copy done) copies called = adjusts_as (begins Copy done) tt (λ none. none) (λ nothing. (nothing, copies tt)) (λ other. other) (used.adjusts (copies tt) called)
+  used_as (begins Copy done) copies called = adjusts_as (begins Copy done) tt (λ none. none) (λ freely. (freely, copies tt)) (λ other. other) (used.adjusts (copies tt) called)
   used_as (begins (Adjustment n) done) copies called =
-      adjusts_as (begins (Adjustment n) done) tt (λ none. none) (λ nothing. (nothing, copies tt)) (λ other. other) (used.adjusts (copies tt) called)
+      adjusts_as (begins (Adjustment n) done) tt (λ none. none) (λ freely. (freely, copies tt)) (λ other. other) (used.adjusts (copies tt) called)
   used_as (ends cause) copies called = finalizes_as cause (used.finalizes called)

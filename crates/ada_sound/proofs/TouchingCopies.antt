@@ -1,9 +1,10 @@
--- The Adjust of a part of a copy is called that touches storage (7.6), in a program in which no Adjust tracks: so no component of the copy is of an access type
--- that is to be adjusted, and what waits for it is as it was.
+-- The Adjust of a part of a copy is called that touches storage (7.6), in a program in which no Adjust tracks, or each record has one controlled part at most: so
+-- no component of the copy is of an access type that is to be adjusted, and what waits for it is as it was.
 
-use Rattle.std.proofs.Common.{◌≡◌, ℕ, Bool, true, false, not, ◌||◌, List, [], ◌∷◌, refl, sym, ap, subst, ◌∙◌}
+use Rattle.std.proofs.Common.{◌≡◌, ◌≤◌, ℕ, Bool, true, false, not, ◌||◌, List, [], ◌∷◌, inl, inr, refl, sym, ap, subst, ◌∙◌, arith}
 use Rattle.std.specs.Prelude.{Option, Some, None, flat_map}
 use Rattle.std.specs.List.{Contains, slice_get}
+use Rattle.std.proofs.lemmas.Bool.{eqb-true, or_cases}
 use Rattle.ada_deeds.proofs.Freed.{deed}
 use Rattle.ada_deeds.specs.declared.deed.Operation.TheVariants.{Adjust}
 use Rattle.ada_deeds.specs.Implicit.{implicit_of}
@@ -21,12 +22,13 @@ use Rattle.ada_parts.specs.Law.{parts_left}
 use Rattle.ada_parts.specs.Part as parts
 use Rattle.ada_parts.specs.Task.{Task, performs}
 use Rattle.ada_program.specs.Controlled.{operations_of, procedure_number}
+use Rattle.ada_program.specs.declared.program.Finalization.{Finalization}
 use Rattle.ada_program.specs.declared.program.Program.{Program}
 use Rattle.ada_program.specs.ProgramForm.{BodyForm, ProgramForm, TypeForm, record_of, body_forms, program_form, seen_in}
-use Rattle.ada_program.specs.WellFormed.{IsWellFormed, finalization_in, is_inherited}
+use Rattle.ada_program.specs.WellFormed.{IsWellFormed, count_said, finalization_in, is_inherited, part_count}
 use Rattle.ada_quiet.specs.Bare.{has_bare_objects}
 use Rattle.ada_quiet.specs.Apart.{leaves_access}
-use Rattle.ada_quiet.specs.InUse.{tracks_nothing}
+use Rattle.ada_quiet.specs.InUse.{adjusts_alone, has_one_part, tracks_beside_none, tracks_nothing}
 use Rattle.ada_quiet.specs.Quiet.{has_access}
 use Rattle.ada_typed.proofs.Lying.{IsOperable}
 use Rattle.ada_typed.proofs.Parts.{shown_shapes}
@@ -34,12 +36,12 @@ use Rattle.ada_tracked.specs.Frames.{blanked}
 use Rattle.ada_sound.proofs.AdjustedParts.{adjusted_frees}
 use Rattle.ada_sound.proofs.Callers.{Suspension, known_in}
 use Rattle.ada_sound.proofs.CopiedOwners.{BeginsCopy, CopyLeft, SeesToOwners, hiding, owners_left, owners_numbered, part_owners}
-use Rattle.ada_sound.proofs.CopyParts.{head_in, left_called, tail_in}
+use Rattle.ada_sound.proofs.CopyParts.{head_in, left_called, owners_skipped, tail_in}
 use Rattle.ada_sound.proofs.FrugalUseEnds.{covered_done, done_lying}
 use Rattle.ada_sound.proofs.Invariant.{AdjustsAside, AdjustsTo, Control, CoveredIn, Known, OneAwaits, RunsOn, Working}
 use Rattle.ada_sound.proofs.NoneHidden.{blanked_none}
 use Rattle.ada_sound.proofs.OnlyParts.{passed_at}
-use Rattle.ada_sound.proofs.PartsApart.{left_sees}
+use Rattle.ada_sound.proofs.PartsApart.{alone_left, left_sees}
 use Rattle.ada_sound.proofs.Returns.{same_types}
 use Rattle.ada_sound.proofs.Touching.{AdjustsBy, Adjusts, AreAround, Enters, IsSpared, Rests, treated_frees}
 use Rattle.ada_sound.proofs.TouchingRests.{names_lie, there_lies}
@@ -106,29 +108,59 @@ module _ (program : Program) (well : IsWellFormed (program_form program)) where
     owned_none : (access r : ℕ) (tasks : List Task) → CopyLeft p.types access r tasks → owners_left p.types access tasks ≡ []
     owned_none access r tasks left = none_of_each (part_owners p.types access) (parts_left (shown_shapes p.types) tasks) (part_owns_none access r tasks left)
 
+    -- Nor does the part that is adjusted next.
+    pub next_owns_none :
+        (procedure : Option ℕ) (gs : List Suspension) (access r of part : ℕ) (tasks : List Task)
+        → CopyLeft (known_in program procedure gs).program.types access r (performs of part ∷ tasks)
+        → owners_numbered (known_in program procedure gs).program.types of ≡ []
+    next_owns_none procedure gs access r of part tasks left =
+        let same = same_types procedure p in
+        subst (λ (types : List TypeForm). owners_numbered types of ≡ []) (sym same)
+        (numbered_none access r (performs of part ∷ tasks) (subst (λ (types : List TypeForm). CopyLeft types access r (performs of part ∷ tasks)) same left)
+        (record { of = of; number = part }) (head_in (record { of = of; number = part }) (parts_left (shown_shapes p.types) tasks)))
+
+  -- A record has one controlled part at most, where each has.
+  one_part : adjusts_alone p ≡ true → (r : ℕ) → part_count p.types r ≤ 1
+  one_part alone r = by (slice_get p.types r) refl
+    where
+      most : (f : Option Finalization) → has_one_part f ≡ true → count_said f ≤ 1
+      most None one = omega arith
+      most (Some f) one = let same = eqb-true f.parts 1 one in omega (arith, same)
+
+      by : (t : Option TypeForm) → slice_get p.types r ≡ t → part_count p.types r ≤ 1
+      by None is = let none : part_count p.types r ≡ 0 = ap (λ (d : Option TypeForm). count_said (finalization_in d)) is in omega (arith, none)
+      by (Some t) is =
+          let count : part_count p.types r ≡ count_said (finalization_in (Some t)) = ap (λ (d : Option TypeForm). count_said (finalization_in d)) is in
+          let one = most (finalization_in (Some t)) (passed_at (λ d. has_one_part (finalization_in (Some d))) p.types r t alone is) in
+          omega (arith, count, one)
+
+  module _ (beside : tracks_beside_none p ≡ true) where
+    -- Behind a part of a copy, no component is to be adjusted.
+    behind_none : (access r of part : ℕ) (tasks : List Task) → CopyLeft p.types access r (performs of part ∷ tasks) → owners_left p.types access tasks ≡ []
+    behind_none access r of part tasks left =
+        elim (or_cases (tracks_nothing p) (adjusts_alone p) beside) [
+          | inl nothing ↦ owned_none nothing access r tasks (left_called p.types access r (performs of part ∷ tasks) left of part refl)
+          | inr alone ↦ alone_left program well access r of part tasks left (one_part alone r)
+        ]
+
     module _ (procedure : Option ℕ) (gs : List Suspension) where
       abbrev known : Known
       known = known_in program procedure gs
 
-      known_none : (access r : ℕ) (tasks : List Task) → CopyLeft known.program.types access r tasks → owners_left known.program.types access tasks ≡ []
-      known_none access r tasks left =
+      known_none :
+          (access r of part : ℕ) (tasks : List Task) → CopyLeft known.program.types access r (performs of part ∷ tasks)
+          → owners_left known.program.types access tasks ≡ []
+      known_none access r of part tasks left =
           let same = same_types procedure p in
           subst (λ (types : List TypeForm). owners_left types access tasks ≡ []) (sym same)
-          (owned_none access r tasks (subst (λ (types : List TypeForm). CopyLeft types access r tasks) same left))
+          (behind_none access r of part tasks (subst (λ (types : List TypeForm). CopyLeft types access r (performs of part ∷ tasks)) same left))
 
-      -- Nor does the part that is adjusted next.
-      pub next_owns_none : (access r of part : ℕ) (tasks : List Task) → CopyLeft known.program.types access r (performs of part ∷ tasks) → owners_numbered known.program.types of ≡ []
-      next_owns_none access r of part tasks left =
-          let same = same_types procedure p in
-          subst (λ (types : List TypeForm). owners_numbered types of ≡ []) (sym same)
-          (numbered_none access r (performs of part ∷ tasks) (subst (λ (types : List TypeForm). CopyLeft types access r (performs of part ∷ tasks)) same left)
-          (record { of = of; number = part }) (head_in (record { of = of; number = part }) (parts_left (shown_shapes p.types) tasks)))
-
-      -- The Adjust of a part is called.
+      -- The Adjust of a part is called, whose type declares none.
       module _
           (o : Id) (x : Object) (heap : List Object) (found : object_at heap o ≡ Some x) (places operands : List Value) (ms : List Master) (k : Control)
           (not_bare : has_bare_objects known.program.types x.cell.access ≡ false) (of part : ℕ) (tasks : List Task)
-          (to : AdjustsTo known (Names o) (performs of part ∷ tasks) k heap places ms) (around : AreAround heap (OneAwaits known.callers))
+          (owns : owners_numbered known.program.types of ≡ []) (to : AdjustsTo known (Names o) (performs of part ∷ tasks) k heap places ms)
+          (around : AreAround heap (OneAwaits known.callers))
         where
           same_object : to.o ≡ o
           same_object = let is = to.is in cc is
@@ -146,7 +178,8 @@ module _ (program : Program) (well : IsWellFormed (program_form program)) where
           -- Nothing is hidden.
           none_hidden : blanked (hiding (owners_left known.program.types to.x.cell.access (performs of part ∷ tasks)) to.o) heap ≡ heap
           none_hidden =
-              ap (λ (owners : List ℕ). blanked (hiding owners to.o) heap) (known_none to.x.cell.access to.record_type (performs of part ∷ tasks) to.left)
+              ap (λ (owners : List ℕ). blanked (hiding owners to.o) heap)
+              (owners_skipped known.program.types to.x.cell.access of part tasks owns ∙ known_none to.x.cell.access to.record_type of part tasks to.left)
               ∙ blanked_none to.o heap
 
           works : Working known heap places ms (λ rooms holds. RunsOn known k rooms holds × AdjustsAside known x.cell.access to.record_type holds)
@@ -163,7 +196,7 @@ module _ (program : Program) (well : IsWellFormed (program_form program)) where
           aside = works.rest.1
 
           what_is_left : Adjusts known x.cell.access tasks k works.rooms works.holds
-          what_is_left = record { record_type = to.record_type; left = left; none = known_none x.cell.access to.record_type tasks left; runs = works.rest.0; aside = aside }
+          what_is_left = record { record_type = to.record_type; left = left; none = known_none x.cell.access to.record_type of part tasks whole; runs = works.rest.0; aside = aside }
 
           abbrev enters_by :
               (by : Birth) (done : List parts.Part) → Rests known (begins by done) false None o x.cell.access x.cell.home places operands [] k ms works.rooms works.holds

@@ -19,7 +19,7 @@ use Rattle.ada_program.specs.WellFormed.{finalization_of, is_access, variable_ki
 use Rattle.ada_quiet.specs.Bare.{has_bare_objects}
 use Rattle.ada_quiet.specs.Frugal.{is_frugal_body, thrift_of}
 use Rattle.ada_quiet.specs.Idle.{makes_parts}
-use Rattle.ada_quiet.specs.InUse.{may_be_frugal, operations_may_be_called, tracks_nothing}
+use Rattle.ada_quiet.specs.InUse.{may_be_frugal, operations_may_be_called, tracks_beside_none}
 use Rattle.ada_meaning.specs.declared.event.Birth.{Birth}
 use Rattle.ada_meaning.specs.declared.event.Birth.TheVariants.{Creation, Copy, Adjustment}
 use Rattle.ada_program.specs.declared.program.Exception.{Exception}
@@ -283,30 +283,30 @@ module _ (program : Program) (a : Activation Value) (rest : List (Activation Val
           }
 
       -- Or it adjusts a part of a copy.
-      adjusts_copy : tracks_nothing p ≡ true → (by : Treatment) → c.treatment ≡ by → (copies : AdjustsCopy by) → EnteredAs by
-      adjusts_copy nothing (begins Creation done) is copies = absurd copies
-      adjusts_copy nothing (begins Copy done) is copies =
+      adjusts_copy : tracks_beside_none p ≡ true → (by : Treatment) → c.treatment ≡ by → (copies : AdjustsCopy by) → EnteredAs by
+      adjusts_copy beside (begins Creation done) is copies = absurd copies
+      adjusts_copy beside (begins Copy done) is copies =
           let part = c.adjusts Copy done is tt in
-          declared_enters program grounds.well nothing a.procedure gs c.o c.x c.heap c.found a.places a.operands s.masters k parted c.of part.0 c.tasks part.1 (around_by (begins Copy done) is refl) done c.number c.b c.there
+          declared_enters program grounds.well beside a.procedure gs c.o c.x c.heap c.found a.places a.operands s.masters k parted c.of part.0 c.tasks (c.plain Copy done is tt) part.1 (around_by (begins Copy done) is refl) done c.number c.b c.there
           (subst (λ (way : Treatment). IsCalled (operations_of program.types.items c.of) way c.number) is c.called)
-      adjusts_copy nothing (begins (Adjustment n) done) is copies =
+      adjusts_copy beside (begins (Adjustment n) done) is copies =
           let part = c.adjusts (Adjustment n) done is tt in
-          assigned_enters program grounds.well nothing a.procedure gs c.o c.x c.heap c.found a.places a.operands s.masters k parted c.of part.0 c.tasks part.1 (around_by (begins (Adjustment n) done) is refl) n done c.number c.b c.there
+          assigned_enters program grounds.well beside a.procedure gs c.o c.x c.heap c.found a.places a.operands s.masters k parted c.of part.0 c.tasks (c.plain (Adjustment n) done is tt) part.1 (around_by (begins (Adjustment n) done) is refl) n done c.number c.b c.there
           (subst (λ (way : Treatment). IsCalled (operations_of program.types.items c.of) way c.number) is c.called)
-      adjusts_copy nothing (ends cause) is copies = absurd copies
+      adjusts_copy beside (ends cause) is copies = absurd copies
 
-      entered_by : (by : Treatment) → c.treatment ≡ by → MayTouch p by → EnteredAs c.treatment
+      entered_by : (by : Treatment) → c.treatment ≡ by → MayTouch p c.number by → EnteredAs c.treatment
       entered_by (begins Creation done) is touches = starts_or_ends (subst IsStartOrEnd (sym is) tt)
-      entered_by (begins Copy done) is touches = subst EnteredAs (sym is) (adjusts_copy touches.0 (begins Copy done) is tt)
-      entered_by (begins (Adjustment n) done) is touches = subst EnteredAs (sym is) (adjusts_copy touches.0 (begins (Adjustment n) done) is tt)
+      entered_by (begins Copy done) is touches = subst EnteredAs (sym is) (adjusts_copy touches.0.0 (begins Copy done) is tt)
+      entered_by (begins (Adjustment n) done) is touches = subst EnteredAs (sym is) (adjusts_copy touches.0.0 (begins (Adjustment n) done) is tt)
       entered_by (ends cause) is touches = starts_or_ends (subst IsStartOrEnd (sym is) tt)
 
       -- Whatever it does.
-      entered_there : MayTouch p c.treatment → EnteredAs c.treatment
+      entered_there : MayTouch p c.number c.treatment → EnteredAs c.treatment
       entered_there touches = entered_by c.treatment refl touches
 
     -- So the body begins, for this object, in front of what is behind its treatment.
-    begins_so : operations_may_be_called p ≡ true → makes_parts p ≡ true → (e : Event) (after : State) (c : Begins known a rest s program.types.items (body_forms program) k IsOperated e after) → MayTouch p c.treatment → may_be_frugal p ≡ true → is_frugal_body (thrift_of p) c.b ≡ true → TouchesStorage p c.treatment c.b
+    begins_so : operations_may_be_called p ≡ true → makes_parts p ≡ true → (e : Event) (after : State) (c : Begins known a rest s program.types.items (body_forms program) k IsOperated e after) → MayTouch p c.number c.treatment → may_be_frugal p ≡ true → is_frugal_body (thrift_of p) c.b ≡ true → TouchesStorage p c.treatment c.b
         → typed.Typed p after → (begun : Begun program gs c.treatment c.behind s.masters after) × (begun.pause.object ≡ c.o) × (begun.pause.after ≡ k)
     begins_so uses made e after c touches may frugal stores typing =
         let operated = c.operated.1 in
@@ -330,7 +330,7 @@ module _ (program : Program) (a : Activation Value) (rest : List (Activation Val
         (watched_begins program grounds.well uses a rest gs s c.treatment at.watch c.o c.x.cell.access c.of operated.1 c.number c.b c.place c.behind c.heap operable c.called c.there frugal at.spared at.stored))
 
     -- That is known of it, whatever runs behind it.
-    pub touching_starts : operations_may_be_called p ≡ true → makes_parts p ≡ true → (e : Event) (after : State) (c : Begins known a rest s program.types.items (body_forms program) k IsOperated e after) → MayTouch p c.treatment → may_be_frugal p ≡ true → is_frugal_body (thrift_of p) c.b ≡ true → TouchesStorage p c.treatment c.b
+    pub touching_starts : operations_may_be_called p ≡ true → makes_parts p ≡ true → (e : Event) (after : State) (c : Begins known a rest s program.types.items (body_forms program) k IsOperated e after) → MayTouch p c.number c.treatment → may_be_frugal p ≡ true → is_frugal_body (thrift_of p) c.b ≡ true → TouchesStorage p c.treatment c.b
         → typed.Typed p after → Begun program gs c.treatment c.behind s.masters after
     touching_starts uses made e after c touches may frugal stores typing = (begins_so uses made e after c touches may frugal stores typing).0
 
@@ -387,7 +387,7 @@ module _ (program : Program) (a : Activation Value) (rest : List (Activation Val
     -- An operation begins there.
     module _ (same : whole.masters ≡ s.masters) (calm : IsCalm (behind_call k)) (settled : AreCalls gs) (stands : Stands program gs (record s { activations = a ∷ rest }))
         (departed : departs_by treatment (departs (ahead_in p) (innermost s.masters)) k ≡ false → AreAround s.heap (OneAwaits (callers_of program gs)))
-        (e : Event) (after : State) (c : Begins known a rest s program.types.items (body_forms program) k IsOperated e after) (touches : MayTouch p c.treatment) where
+        (e : Event) (after : State) (c : Begins known a rest s program.types.items (body_forms program) k IsOperated e after) (touches : MayTouch p c.number c.treatment) where
       -- Nothing begins of another object than the one that it is called for.
       pub untreated_outermost : (u : Value) → u ≢ Names c.o → NothingBegins u k
       untreated_outermost u other =

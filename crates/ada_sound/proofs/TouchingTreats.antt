@@ -441,7 +441,7 @@ module _ (program : Program) (a : Activation Value) (rest : List (Activation Val
         lone_here (ends (Undoing number)) one (inr (inr replacing)) = absurd replacing.0.0
 
         -- So one begins inside that touches storage.
-        begins_frugal : MayTouch p c.treatment → may_be_frugal p ≡ true → is_frugal_body (thrift_of p) c.b ≡ true → TouchesStorage p c.treatment c.b
+        begins_frugal : MayTouch p c.number c.treatment → may_be_frugal p ≡ true → is_frugal_body (thrift_of p) c.b ≡ true → TouchesStorage p c.treatment c.b
             → Went program s.heap e after
         begins_frugal touches may frugal_body stores =
             let uses = treats_in_use program whole grounds whole.control refl tt in

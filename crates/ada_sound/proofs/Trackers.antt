@@ -23,9 +23,9 @@ use Rattle.ada_program.specs.ProgramForm.{PartForm, TypeForm, record_of, access_
 use Rattle.ada_program.specs.WellFormed.{IsWellFormed, finalization_in, has_operations, have_operations, overrides_rightly, is_operation, callable_in, profile_of, is_inherited, variable_kind}
 use Rattle.ada_flow.specs.Flow.{is_owning_part, object_record, is_procedure, tracked_of, tracked_by_adjust, tracks_of}
 use Rattle.ada_flow.specs.Tracking.{no_tracks, tracks_behind, access_numbers, number_within}
-use Rattle.ada_quiet.specs.Apart.{is_this_one, is_adjust_of, is_tracker, body_calls_apart, overrides_apart, operations_apart, operations_stand_apart, leaves_access}
+use Rattle.ada_quiet.specs.Apart.{is_this_one, is_adjust_of, is_tracker, body_calls_apart, overrides_apart, operations_apart, operations_stand_apart}
 use Rattle.ada_quiet.specs.Idle.{makes_parts, copies_parts}
-use Rattle.ada_quiet.specs.InUse.{tracks_nothing, uses_adjust, may_be_frugal, uses_operations, operations_are_idle, operations_may_be_called, operations_are_in_use, is_copied_in_order, may_track, adjusts_nothing, operations_stand_in_order}
+use Rattle.ada_quiet.specs.InUse.{uses_adjust, may_be_frugal, uses_operations, operations_are_idle, operations_may_be_called, operations_are_in_use, is_copied_in_order, may_track, adjusts_nothing, operations_stand_in_order}
 use Rattle.ada_quiet.specs.Quiet.{has_access, is_of_access, operation_body}
 use Rattle.ada_sound.proofs.OperationStarts.{apart}
 use Rattle.ada_sound.specs.Untracked.{AdjustsNoOwners}
@@ -209,36 +209,8 @@ module _ (tracks : ℕ → Bool) where
   called_plainly None number is called = absurd (cc called)
   called_plainly (Some procedure) number is called = let same : procedure.0 ≡ number = cc called in not-true (tracks number) (rw same at is)
 
-module _ (p : ProgramForm) where
-  inherits_none : (m : ℕ) (adjust : Option ProcedureNo) → is_inherited adjust ≡ true → is_this_one m adjust ≡ false
-  inherits_none m None is = refl
-  inherits_none m (Some procedure) is = absurd (cc is)
-
-  nothing_at : (m : ℕ) (t : TypeForm) (f : Option Finalization) → leaves_access t f ≡ true → (has_access (Some t) && is_adjust_of m f) ≡ false
-  nothing_at m t None leaves = by (has_access (Some t))
-    where
-      by : (b : Bool) → (b && false) ≡ false
-      by true = refl
-      by false = refl
-  nothing_at m t (Some f) leaves = by (has_access (Some t)) leaves
-    where
-      by : (owns : Bool) → (not owns || is_inherited f.operations.adjust) ≡ true → (owns && is_this_one m f.operations.adjust) ≡ false
-      by true inherits = inherits_none m f.operations.adjust inherits
-      by false inherits = refl
-
-  nothing_among : (m : ℕ) (ts : List TypeForm) → list_all (λ t. leaves_access t (finalization_in (Some t))) ts ≡ true
-      → list_any (λ t. has_access (Some t) && is_adjust_of m (finalization_in (Some t))) ts ≡ false
-  nothing_among m [] all = refl
-  nothing_among m (t ∷ ts) all =
-      let both = apart _ _ all in
-      rw (nothing_at m t (finalization_in (Some t)) both.0, nothing_among m ts both.1) refl
-
-  -- In a program in which no Adjust tracks, no procedure does.
-  pub nothing_tracks : tracks_nothing p ≡ true → (m : ℕ) → is_tracker p m ≡ false
-  nothing_tracks nothing m = nothing_among m p.types nothing
-
 -- So it is where an operation of a type with controlled parts is called that may touch storage.
-pub touches_apart : (program : Program) → TracksSafely (program_form program) → (of number : ℕ) (treatment : Treatment) → MayTouch (program_form program) treatment
+pub touches_apart : (program : Program) → TracksSafely (program_form program) → (of number : ℕ) (treatment : Treatment) → MayTouch (program_form program) number treatment
     → IsCalled (operations_of program.types.items of) treatment number → is_tracker (program_form program) number ≡ false
 touches_apart program (inl none) of number treatment may called = none number
 touches_apart program (inr tracks) of number treatment may called = by treatment may called
@@ -249,10 +221,10 @@ touches_apart program (inr tracks) of number treatment may called = by treatment
         (apart (body_calls_apart (program_form program).types (is_tracker (program_form program)) (main_body (program_form program)) && list_all (body_calls_apart (program_form program).types (is_tracker (program_form program))) (program_form program).bodies) _
         tracks.0).1
 
-    by : (treatment' : Treatment) → MayTouch (program_form program) treatment' → IsCalled (operations_of program.types.items of) treatment' number → is_tracker (program_form program) number ≡ false
+    by : (treatment' : Treatment) → MayTouch (program_form program) number treatment' → IsCalled (operations_of program.types.items of) treatment' number → is_tracker (program_form program) number ≡ false
     by (begins Creation done) may' called' = called_plainly (is_tracker (program_form program)) _ number plainly.initialize called'
-    by (begins Copy done) may' called' = nothing_tracks (program_form program) may'.0 number
-    by (begins (Adjustment n) done) may' called' = nothing_tracks (program_form program) may'.0 number
+    by (begins Copy done) may' called' = may'.0.1
+    by (begins (Adjustment n) done) may' called' = may'.0.1
     by (ends cause) may' called' = called_plainly (is_tracker (program_form program)) _ number plainly.finalize called'
 
 -- A type declares a component of an access type where a declared component owns.
