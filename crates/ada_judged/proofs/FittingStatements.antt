@@ -68,7 +68,7 @@ module _ (types : List TypeForm) (tracks : Tracks) (own : List VariableForm) (p 
   whole_alike t None items = refl
   whole_alike t (Some f) items = ap (λ (b : Bool). not f.limited && b) (copied_alike t items)
 
-  same_record :
+  pub same_record :
       (target : RecordPathForm) (items : List ItemForm) → target.object.root < tracks.first → PathIsOfRecord target.object → ItemsAreSimple tracks.first items → ItemsAreOfRecord items
       → (is_record_path types all (seen_record tracks target) && record_fits types all target.record_type (seen_items tracks items))
       ≡ (is_record_path types own target && record_fits types own target.record_type items)

@@ -10,6 +10,7 @@ use Rattle.ada_program.specs.declared.program.VariableKind.{VariableKind}
 use Rattle.ada_program.specs.declared.program.VariableKind.TheVariants as variable
 use Rattle.ada_program.specs.ProgramForm.{TypeForm, BodyForm, ProgramForm}
 use Rattle.ada_program.specs.WellFormed.{finalization_of}
+use Rattle.ada_quiet.specs.Apart.{is_bare_item}
 use Rattle.ada_quiet.specs.Bare.{has_bare_objects}
 
 -- What is assigned (5.2) is no new object (4.8), or one without controlled parts.
@@ -39,7 +40,8 @@ module _ (types : List TypeForm) (may_free : Bool) where
     pub is_simple_stmt : StmtForm → Bool
     is_simple_stmt skips = true
     is_simple_stmt (assigns target right) = is_simple_right types right
-    is_simple_stmt (assigns_record target items) = not (is_some (finalization_of types target.record_type))
+    is_simple_stmt (assigns_record target items) =
+        not (is_some (finalization_of types target.record_type)) && list_all (is_bare_item types) items
     is_simple_stmt (frees access path) = may_free && has_bare_objects types access
     is_simple_stmt (gets target) = true
     is_simple_stmt (writes e) = true

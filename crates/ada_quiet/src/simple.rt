@@ -9,6 +9,7 @@ ghost use Rattle.ada_program.specs.Kept.{types_in, variables_in};
 ghost use Rattle.ada_program.specs.ProgramForm.{body_form};
 ghost use Rattle.ada_quiet.specs.Simple as rules;
 
+use crate::apart::are_bare_items;
 use crate::bare::has_bare_objects;
 use ada_program::Stmt;
 use ada_program::parts::finalization_of;
@@ -78,8 +79,8 @@ fn is_simple_stmt(types: &[TypeDefinition], may_free: bool, statement: &Stmt) ->
         | Stmt::Return(_)
         | Stmt::Raise(_) => true,
         Stmt::Call { .. } => false,
-        Stmt::AssignRecord { target, items: _ } => {
-            finalization_of(types, target.record.0).is_none()
+        Stmt::AssignRecord { target, items } => {
+            finalization_of(types, target.record.0).is_none() && are_bare_items(types, items)
         }
         Stmt::Assign { target: _, value } => is_simple_right(types, value),
         Stmt::Free { access, path: _ } => may_free && has_bare_objects(types, *access),

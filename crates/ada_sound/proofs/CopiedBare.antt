@@ -305,22 +305,22 @@ no_treatment w (f ∷ k) v treatment tasks l simple is = cc
 -- Where nothing is hidden, components that are covered are of no access type.
 uncovered : (c : ℕ) (kinds : List ComponentKind) → Covered [] c kinds → list_any is_owning kinds ≡ false
 uncovered c [] covers = refl
-uncovered c (kind ∷ kinds) covers = by (is_owning kind) refl
+uncovered c (kind ∷ kinds) covers = by (is_owning kind) refl (uncovered (c + 1) kinds covers.1)
   where
-    by : (owns : Bool) → is_owning kind ≡ owns → (is_owning kind || list_any is_owning kinds) ≡ false
-    by true is = absurd (cc ((covers.0 is).1))
-    by false is = ap (λ (b : Bool). b || list_any is_owning kinds) is ∙ uncovered (c + 1) kinds covers.1
+    by : (owns : Bool) → is_owning kind ≡ owns → list_any is_owning kinds ≡ false → (is_owning kind || list_any is_owning kinds) ≡ false
+    by true is others = absurd (cc ((covers.0 is).1))
+    by false is others = ap (λ (b : Bool). b || list_any is_owning kinds) is ∙ others
 
 -- A record that is stored next, by a body that is judged, has no component of an access type: no Adjust sees to it behind that.
 module _ (known : Known) (w : View) (heap : List Object) (operands : List Value) (c count : ℕ) (k : Control) (simple : BodyIsSimple w.tracks.first k)
     (rooms : Rooms) (holds : Holds) (o : Id) (access : ℕ) (known_as : (y : Object) → object_at heap o ≡ Some y → y.cell.access ≡ access) where
   adjusted_plain :
-      (tasks : List Task) (behind : Control) (number r : ℕ) (ks : List ComponentKind)
-      → seen_control w k ≡ treating (Names o) (begins (Adjustment number) []) tasks behind
+      (tasks : List Task) (later : Control) (number r : ℕ) (ks : List ComponentKind)
+      → seen_control w k ≡ treating (Names o) (begins (Adjustment number) []) tasks later
       → Covered (owners_left known.program.types r tasks) c (take count (drop c ks)) → list_any is_owning (take count (drop c ks)) ≡ false
-  adjusted_plain [] behind number r ks is covers = uncovered c (take count (drop c ks)) covers
-  adjusted_plain (task ∷ tasks) behind number r ks is covers =
-      absurd (no_treatment w k (Names o) (begins (Adjustment number) []) (task ∷ tasks) behind simple is)
+  adjusted_plain [] later number r ks is covers = uncovered c (take count (drop c ks)) covers
+  adjusted_plain (task ∷ tasks) later number r ks is covers =
+      absurd (no_treatment w k (Names o) (begins (Adjustment number) []) (task ∷ tasks) later simple is)
 
   stored_plain :
       StoresFrom known heap operands (Names o) c count (seen_control w k) rooms holds → (ks : List ComponentKind)
@@ -366,30 +366,30 @@ first_or_none true e = refl
 first_or_none false e = e
 
 leads_bare :
-    (types : List TypeForm) (behind : Control) (among : List Value) (k : Control) (ms : List Master) → FrugalLeads (simple_allowance types) behind among k ms
+    (types : List TypeForm) (later : Control) (among : List Value) (k : Control) (ms : List Master) → FrugalLeads (simple_allowance types) later among k ms
     → AssignsNone types k
-leads_bare types behind among (frame.Does (a_stmt (assigns_record target items) fs) ∷ k) ms leads =
+leads_bare types later among (frame.Does (a_stmt (assigns_record target items) fs) ∷ k) ms leads =
     first_or_none (not (is_some (finalization_of types target.record_type))) (and_parts _ _ leads.0).0
-leads_bare types behind among k ms leads = tt
+leads_bare types later among k ms leads = tt
 
 leaves_bare :
-    (types : List TypeForm) (behind : Control) (among : List Value) (k : Control) (ms : List Master) → FrugalLeaves (simple_allowance types) behind among k ms
+    (types : List TypeForm) (later : Control) (among : List Value) (k : Control) (ms : List Master) → FrugalLeaves (simple_allowance types) later among k ms
     → AssignsNone types k
-leaves_bare types behind among (frame.Does (a_stmt (assigns_record target items) fs) ∷ k) ms leaves = absurd leaves
-leaves_bare types behind among k ms leaves = tt
+leaves_bare types later among (frame.Does (a_stmt (assigns_record target items) fs) ∷ k) ms leaves = absurd leaves
+leaves_bare types later among k ms leaves = tt
 
 begins_bare :
-    (types : List TypeForm) (behind : Control) (among : List Value) (k : Control) (ms : List Master) → FrugalBegins (simple_allowance types) behind among k ms
+    (types : List TypeForm) (later : Control) (among : List Value) (k : Control) (ms : List Master) → FrugalBegins (simple_allowance types) later among k ms
     → AssignsNone types k
-begins_bare types behind among (frame.Does (a_stmt (assigns_record target items) fs) ∷ k) ms starts = absurd starts
-begins_bare types behind among k ms starts = tt
+begins_bare types later among (frame.Does (a_stmt (assigns_record target items) fs) ∷ k) ms starts = absurd starts
+begins_bare types later among k ms starts = tt
 
 frugal_bare :
-    (types : List TypeForm) (behind : Control) (among : List Value) (mode : Mode) (k : Control) (ms : List Master)
-    → Frugal (simple_allowance types) behind among mode k ms → AssignsNone types k
-frugal_bare types behind among mode k ms (inl leads) = leads_bare types behind among k ms leads
-frugal_bare types behind among mode k ms (inr (inl leaves)) = leaves_bare types behind among k ms leaves.1
-frugal_bare types behind among mode k ms (inr (inr starts)) = begins_bare types behind among k ms starts.1
+    (types : List TypeForm) (later : Control) (among : List Value) (mode : Mode) (k : Control) (ms : List Master)
+    → Frugal (simple_allowance types) later among mode k ms → AssignsNone types k
+frugal_bare types later among mode k ms (inl leads) = leads_bare types later among k ms leads
+frugal_bare types later among mode k ms (inr (inl leaves)) = leaves_bare types later among k ms leaves.1
+frugal_bare types later among mode k ms (inr (inr starts)) = begins_bare types later among k ms starts.1
 
 -- So it is in the real state, if it is so in the one that stands for it.
 seen_bare :

@@ -1,6 +1,6 @@
 -- Records are assigned as wholes: another one is found than the object that is watched, or no component that is stored is tracked.
 
-use Rattle.std.proofs.Common.{◌≡◌, ℕ, ◌+◌, ◌-◌, ◌<◌, ◌≤◌, Bool, false, true, List, [], ◌∷◌, ◌++◌, length, take, drop, Option, Some, None, refl, sym, ap, ◌∙◌, inl, inr, subst, arith}
+use Rattle.std.proofs.Common.{◌≡◌, ℕ, ◌+◌, ◌<◌, ◌≤◌, Bool, false, true, List, [], ◌∷◌, ◌++◌, length, take, drop, Option, Some, None, refl, sym, ap, ◌∙◌, inl, inr, subst, arith}
 use Rattle.std.specs.Prelude.{reverse}
 use Rattle.std.proofs.lemmas.List.{length-take, length-reverse}
 use Rattle.ada_program.specs.declared.program.TypeDefinition.{TypeDefinition}
@@ -18,11 +18,11 @@ use Rattle.ada_meaning.specs.Frame as frame
 use Rattle.ada_meaning.specs.State.{Activation}
 use Rattle.ada_meaning.specs.Heap.{Cell, Found, on_null, on_gone, on_other, finds}
 use Rattle.ada_meaning.specs.Step.{at, raised, record_in, stored_from, record_stored_next, record_target_next, store_record_next}
-use Rattle.ada_meaning.specs.Named.{Object, State, named, look, store}
+use Rattle.ada_meaning.specs.Named.{State, named, look}
 use Rattle.ada_meaning.proofs.Records.{record_same}
 use Rattle.ada_tracked.specs.Copying.{AreNoneOf, FirstAssignsBare, AssignsBare, FirstCopiesNone, CopiesNone, is_tracked_at}
 use Rattle.ada_tracked.specs.Forms.{seen_items}
-use Rattle.ada_tracked.specs.Frames.{View, watched, number_of, number_in, blank_values, seen_control, blanked, tracked_values}
+use Rattle.ada_tracked.specs.Frames.{View, watched, number_of, blank_values, seen_control, blanked, tracked_values}
 use Rattle.ada_tracked.specs.Law.{same, Shown}
 use Rattle.ada_tracked.specs.Seen.{leads_to, awaits_holder, seen_state, IsWatched}
 use Rattle.ada_tracked.proofs.Evaluations.{same_made}
