@@ -186,10 +186,11 @@ module _ (w : View) (h : List Object) (x : Object) (there : object_at h w.object
   there_still c (Names p) u = by (p.0 == w.object.0) refl
     where
       by : (b : Bool) → (p.0 == w.object.0) ≡ b → (y : Object) × (object_at (store h (Names p) c u) w.object ≡ Some y)
-      by true is =
-          (filled c u x,
-          ap (λ (v : Value). object_at (store h v c u) w.object) (one_object p w.object (is_same p.0 w.object.0 is))
-          ∙ ap (λ (g : List Object). object_at g w.object) (on_is (filled c u) h w.object x there) ∙ after_set (filled c u x))
+      by true is = (
+        filled c u x,
+        ap (λ (v : Value). object_at (store h v c u) w.object) (one_object p w.object (is_same p.0 w.object.0 is))
+            ∙ ap (λ (g : List Object). object_at g w.object) (on_is (filled c u) h w.object x there) ∙ after_set (filled c u x),
+      )
       by false ne = (x, still_by (filled c u) p ne (slice_get h p.0) ∙ there)
   there_still c (Scalar n) u = (x, there)
   there_still c (Part p place) u = (x, there)

@@ -55,11 +55,12 @@ stored_beside :
     (w : View) (c : ℕ) (us : List Value) → ((i : ℕ) → i < length us → is_tracked_at w (c + i) ≡ false) → StoresUntracked w (Names w.object) c us
 stored_beside w c [] none = tt
 stored_beside w c (u ∷ us) none =
-    let first : c + 0 ≡ c = omega (arith) in
-    (number_there w c ∙ no_number (number_of w c) (sym (ap (is_tracked_at w) first) ∙ none 0 (omega (arith))),
-    stored_beside w (c + 1) us (λ i lt.
-    let next : c + (i + 1) ≡ c + 1 + i = omega (arith) in
-    sym (ap (is_tracked_at w) next) ∙ none (i + 1) (omega (arith, lt))))
+    let first : c + 0 ≡ c = omega (arith) in (
+      number_there w c ∙ no_number (number_of w c) (sym (ap (is_tracked_at w) first) ∙ none 0 (omega (arith))),
+      stored_beside w (c + 1) us (λ i lt.
+          let next : c + (i + 1) ≡ c + 1 + i = omega (arith) in
+          sym (ap (is_tracked_at w) next) ∙ none (i + 1) (omega (arith, lt))),
+    )
 
 -- As many values as were asked for are stored, or fewer.
 no_more : (count : ℕ) (vs : List Value) → length (reverse (take count vs)) ≤ count
