@@ -126,9 +126,10 @@ items_plain :
     → items_fit types variables components items ≡ true → list_any is_owning components ≡ false → OwnNothing types items
 items_plain types variables [] components fits plain = tt
 items_plain types variables (i ∷ items) components fits plain =
-    let two = both (item_fits types variables components i) (items_fit types variables (drop (item_width types i) components) items) fits in
-    (item_plain types variables i components two.0 plain,
-    items_plain types variables items (drop (item_width types i) components) two.1 (drop_plain (item_width types i) components plain))
+    let two = both (item_fits types variables components i) (items_fit types variables (drop (item_width types i) components) items) fits in (
+      item_plain types variables i components two.0 plain,
+      items_plain types variables items (drop (item_width types i) components) two.1 (drop_plain (item_width types i) components plain),
+    )
 
 -- Where the components of an object are covered, those of a record are with which they are alike.
 covers_same : (c kind : ComponentKind) → is_alike c kind ≡ true → (X : Type 0) → (is_owning c ≡ true → X) → is_owning kind ≡ true → X
