@@ -1,6 +1,6 @@
 -- No object ceases to exist that a component gets a value of, or beside which a new one comes to be.
 
-use Rattle.std.proofs.Common.{◌≡◌, ℕ, zero, suc, List, [], ◌∷◌, ◌++◌, Option, Some, None, refl, sym, ap, ◌∙◌, inl, inr}
+use Rattle.std.proofs.Common.{◌≡◌, ℕ, zero, suc, ◌+◌, List, [], ◌∷◌, ◌++◌, Option, Some, None, refl, sym, ap, ◌∙◌, inl, inr}
 use Rattle.std.specs.List.{slice_get, slice_set}
 use Rattle.std.proofs.lemmas.Bool.Decides.{eqb_tells}
 use Rattle.ada_meaning.specs.declared.state.Id.{Id}
@@ -8,7 +8,8 @@ use Rattle.ada_meaning.specs.declared.state.Stage.TheVariants.{Existing}
 use Rattle.ada_meaning.specs.declared.state.Value.{Value}
 use Rattle.ada_meaning.specs.declared.state.Value.TheVariants.{Null, Names, Scalar, Part}
 use Rattle.ada_meaning.specs.Heap.{Cell}
-use Rattle.ada_meaning.specs.Named.{Object, object_at, changed, new_object, create, filled, store}
+use Rattle.ada_meaning.specs.Step.{stored_from}
+use Rattle.ada_meaning.specs.Named.{Object, named, object_at, changed, new_object, create, filled, store}
 use Rattle.ada_untouched.proofs.Heaps.{set_here, set_there}
 use Rattle.ada_beside.specs.Law.{NoneCeases}
 
@@ -48,6 +49,13 @@ stored_ceases_none h Null c u = none_changes h
 stored_ceases_none h (Names p) c u = changed_stays h c u p (object_at h p) refl
 stored_ceases_none h (Scalar a) c u = none_changes h
 stored_ceases_none h (Part p place) c u = none_changes h
+
+-- Nor where several are stored one after the other.
+pub record_ceases_none : (h : List Object) (v : Value) (c : ℕ) (us : List Value) → NoneCeases h (stored_from named h v c us)
+record_ceases_none h v c [] = none_changes h
+record_ceases_none h v c (u ∷ us) = λ o x is exists.
+    let one = stored_ceases_none h v c u o x is exists in
+    record_ceases_none (store h v c u) v (c + 1) us o one.0 one.1 one.2
 
 -- No object ceases to exist where a new one comes to be.
 pub created_ceases_none : (h : List Object) (words : ℕ) (cell : Cell Value) → NoneCeases h (create h words cell)

@@ -1,6 +1,6 @@
 -- Each step of a confined body leaves it so, and no object ceases to exist.
 
-use Rattle.std.proofs.Common.{◌≡◌, ℕ, ◌+◌, Bool, true, false, List, [], ◌∷◌, length, drop, Option, Some, None, Result, Ok, Err, refl, inl, inr, arith}
+use Rattle.std.proofs.Common.{◌≡◌, ℕ, ◌+◌, Bool, true, false, List, [], ◌∷◌, length, drop, Option, Some, None, Result, Ok, Err, refl, sym, subst, inl, inr, arith}
 use Rattle.std.specs.Prelude.{not, ℤ, pos, ◌+ℤ◌, int_le, if◌then◌else◌}
 use Rattle.std.specs.List.{slice_get}
 use Rattle.std.proofs.lemmas.Bool.Decides.{eqb_tells}
@@ -28,17 +28,18 @@ use Rattle.ada_meaning.specs.Frame.{Treatment, begins, Frame, is_loop, is_return
 use Rattle.ada_meaning.specs.Frame as frame
 use Rattle.ada_meaning.specs.State.{Destination, Item, Master, Owned, declared, collection, record_object, storage_pool, home_of, pools_in, pool_for, counted, type_housed}
 use Rattle.ada_meaning.specs.Heap.{Cell, Found, on_null, on_gone, on_other, finds}
-use Rattle.ada_meaning.specs.Step.{moves, all_tasks, treating, at, first_or, older, places, operands, set_operands, computed, popped, owned, entered, shorter, put, jumping, in_front, held, newest, reading, component_next, follow_next, path_next, before_last, last_of, named_next, holder_next, place_in, expression_next, null_test_next, is_decided, link_next, links_next, outcome_next, items_next, copied_next, copies_next, record_in, initialized, new_cell, answered, new_next, right_next, assign_next, target_next, stored_next, store_next, branches_next, decided_next, turn_next, repeats_next, turned_next, count_turn_next, ranges_next, gets_next, received_next, receive_next, exit_next, exited_next, stmt_next, stmts_next, line_next, declarations_next, item_leave_next, master_leave_next, leave_next, frame_next, landed, unwound, pass_next}
+use Rattle.ada_meaning.specs.Step.{moves, all_tasks, treating, at, first_or, older, places, operands, set_operands, computed, popped, owned, entered, shorter, put, jumping, in_front, held, newest, reading, component_next, follow_next, path_next, before_last, last_of, named_next, holder_next, place_in, expression_next, null_test_next, is_decided, link_next, links_next, outcome_next, items_next, copied_next, copies_next, record_in, newest_ones, without_newest, stored_from, record_assign_next, record_target_next, record_stored_next, store_record_next, initialized, new_cell, answered, new_next, right_next, assign_next, target_next, stored_next, store_next, branches_next, decided_next, turn_next, repeats_next, turned_next, count_turn_next, ranges_next, gets_next, received_next, receive_next, exit_next, exited_next, stmt_next, stmts_next, line_next, declarations_next, item_leave_next, master_leave_next, leave_next, frame_next, landed, unwound, pass_next}
 use Rattle.ada_meaning.specs.Named.{Object, object_at, State, Next, named, an_integer, a_boolean, whole, inside, look, store, created, create, reads_integer, reads_boolean, reads_null, unary_given, binary_given, next}
 use Rattle.ada_tracked.specs.Frames.{View}
 use Rattle.ada_tracked.specs.Law.{NewestHousesNone, InnermostHousesNone, TakesNone}
+use Rattle.ada_tracked.specs.Copying.{StatementsAssignBare, FirstAssignsBare, AssignsBare}
 use Rattle.ada_tracked.specs.Looking.{LandsElsewhere, HoldsElsewhere, LeadsElsewhere, HolderIsElsewhere, StatementsLookElsewhere, NextLooksElsewhere, FirstLooksElsewhere, LooksElsewhere}
 use Rattle.ada_tracked.specs.Seen.{IsOther, awaits_holder, IsWatched}
 use Rattle.ada_tracked.specs.Simple.{IsVariable}
 use Rattle.ada_beside.specs.Confined.{IsConfinedFrom, ExpressionIsConfined, LinksAreConfined, ConditionIsConfined, ItemsAreConfined, RightIsConfined, DeclarationsAreConfined, StatementIsConfined, StatementsAreConfined, BranchesAreConfined, HandlersAreConfined, StoresReached, FrameIsConfined, BodyIsConfined, OperandsAreConfined, IsConfined}
 use Rattle.ada_beside.specs.Law.{NoneCeases, TreatsNone, IsWithin, GoesOn, AllGoOn}
 use Rattle.ada_beside.proofs.Operands.{set_so, holds_any, holder_starts, holder_holds, unawaited, other_confined, landed_confined, target_confined, receiver_confined, start_reached}
-use Rattle.ada_beside.proofs.Ceasing.{none_changes, stored_ceases_none, created_ceases_none}
+use Rattle.ada_beside.proofs.Ceasing.{none_changes, stored_ceases_none, record_ceases_none, created_ceases_none}
 use Rattle.ada_beside.proofs.Touched.{unless_it_ends}
 
 -- A new object is none that is there already.
@@ -392,30 +393,33 @@ module _ (types : List TypeDefinition) (bodies : List BodyForm) (w : View) (reac
   -- A body goes on as a statement begins, in front of those behind it.
   stmt_goes :
       (f : StmtForm) (behind : StmtsForm) (l : List (Frame Value)) (s : State) → StatementIsConfined w.tracks.first reaches f → IsWatched w (places s) s.heap
-      → StatementsLookElsewhere w.object (at l s) (a_stmt f behind) → Goes s (stmt_next named types bodies f s)
-  stmt_goes skips behind l s confined p looks h g = stays s h g
-  stmt_goes (assigns target right) behind l s confined p looks h g = assign_goes target.selectors target.root right s confined.0 confined.1 p looks h g
-  stmt_goes (assigns_record target items) behind l s confined p looks h g = absurd confined
-  stmt_goes (frees access path) behind l s confined p looks h g = absurd confined
-  stmt_goes (gets target) behind l s confined p looks h g = gets_goes target.selectors target.root s.input s confined p looks h g
-  stmt_goes (writes e) behind l s confined p looks h g = stays (at (frame.Computes e ∷ frame.Writes ∷ s.control) s) (confined, (tt, h)) refl
-  stmt_goes (writes_text text) behind l s confined p looks h g = stays s h g
-  stmt_goes (chooses branches) behind l s confined p looks h g = branches_go branches s confined h g
-  stmt_goes (repeats condition fs spot) behind l s confined p looks h g = stays (at (frame.Repeats condition fs ∷ s.control) s) (confined, h) refl
-  stmt_goes (counts x low high fs spot) behind l s confined p looks h g =
+      → StatementsLookElsewhere w.object (at l s) (a_stmt f behind) → StatementsAssignBare types (a_stmt f behind) → Goes s (stmt_next named types bodies f s)
+  stmt_goes skips behind l s confined p looks bare h g = stays s h g
+  stmt_goes (assigns target right) behind l s confined p looks bare h g = assign_goes target.selectors target.root right s confined.0 confined.1 p looks h g
+  stmt_goes (assigns_record target items) behind l s confined p looks bare h g =
+      let place = place_in named (held named s target.object.root) target.object.selectors target in
+      subst (λ (parts : Bool). AllGoOn w reaches s.heap (record_assign_next named parts target items s)) (sym bare)
+      (named_goes target.object.selectors target.object.root (at (frame.TargetsRecord place.component target.record_type items ∷ s.control) s) (confined.1, h) refl)
+  stmt_goes (frees access path) behind l s confined p looks bare h g = absurd confined
+  stmt_goes (gets target) behind l s confined p looks bare h g = gets_goes target.selectors target.root s.input s confined p looks h g
+  stmt_goes (writes e) behind l s confined p looks bare h g = stays (at (frame.Computes e ∷ frame.Writes ∷ s.control) s) (confined, (tt, h)) refl
+  stmt_goes (writes_text text) behind l s confined p looks bare h g = stays s h g
+  stmt_goes (chooses branches) behind l s confined p looks bare h g = branches_go branches s confined h g
+  stmt_goes (repeats condition fs spot) behind l s confined p looks bare h g = stays (at (frame.Repeats condition fs ∷ s.control) s) (confined, h) refl
+  stmt_goes (counts x low high fs spot) behind l s confined p looks bare h g =
       stays (at (frame.Computes low ∷ frame.Computes high ∷ frame.Ranges x fs ∷ s.control) s) (confined.1, (confined.2, ((confined.0, confined.3), h))) refl
-  stmt_goes (exits condition spot) behind l s confined p looks h g = exit_goes condition s confined h g
-  stmt_goes (calls procedure actuals) behind l s confined p looks h g = absurd confined
-  stmt_goes (returns spot) behind l s confined p looks h g = jumps Returning s h
-  stmt_goes (raises e) behind l s confined p looks h g = jumps (Raising e) s h
-  stmt_goes (encloses ds fs hs) behind l s confined p looks h g = stays (entered (at (frame.Elaborates ds fs hs ∷ s.control) s)) (confined, h) refl
+  stmt_goes (exits condition spot) behind l s confined p looks bare h g = exit_goes condition s confined h g
+  stmt_goes (calls procedure actuals) behind l s confined p looks bare h g = absurd confined
+  stmt_goes (returns spot) behind l s confined p looks bare h g = jumps Returning s h
+  stmt_goes (raises e) behind l s confined p looks bare h g = jumps (Raising e) s h
+  stmt_goes (encloses ds fs hs) behind l s confined p looks bare h g = stays (entered (at (frame.Elaborates ds fs hs ∷ s.control) s)) (confined, h) refl
 
   -- A body goes on as the first of some statements begins.
   stmts_go :
       (fs : StmtsForm) (l : List (Frame Value)) (s : State) → StatementsAreConfined w.tracks.first reaches fs → IsWatched w (places s) s.heap
-      → StatementsLookElsewhere w.object (at l s) fs → Goes s (stmts_next named types bodies fs s)
-  stmts_go no_stmts l s confined p looks h g = stays s h g
-  stmts_go (a_stmt f fs) l s confined p looks h g = stmt_goes f fs l (at (frame.Does fs ∷ s.control) s) confined.0 p looks (confined.1, h) refl
+      → StatementsLookElsewhere w.object (at l s) fs → StatementsAssignBare types fs → Goes s (stmts_next named types bodies fs s)
+  stmts_go no_stmts l s confined p looks bare h g = stays s h g
+  stmts_go (a_stmt f fs) l s confined p looks bare h g = stmt_goes f fs l (at (frame.Does fs ∷ s.control) s) confined.0 p looks bare (confined.1, h) refl
 
   -- A body goes on as a declaration is elaborated, or the statements behind the last one come.
   declarations_go :
@@ -449,68 +453,97 @@ module _ (types : List TypeDefinition) (bodies : List BodyForm) (w : View) (reac
   leave_goes mode [] s none h g = tt
   leave_goes mode (m ∷ ms) s none h g = master_goes mode m.number m.items s none h g
 
+  -- A body goes on as the object is found in which a record lies that is assigned to.
+  record_target_goes :
+      (v : Value) (c count : ℕ) (items : List ItemForm) (found : Found (Cell Value)) (s : State) → ItemsAreConfined w.tracks.first reaches items
+      → BodyIsConfined w reaches s.control → AllGoOn w reaches s.heap (record_target_next named v c count items found s)
+  record_target_goes v c count items on_null s confined h = jumps (Raising ConstraintError) s h
+  record_target_goes v c count items on_gone s confined h = tt
+  record_target_goes v c count items on_other s confined h = tt
+  record_target_goes v c count items (finds cell) s confined h =
+      stays (at (frame.Fills items ∷ frame.StoresRecord v c count ∷ s.control) s) (confined, (tt, h)) refl
+
+  -- A body goes on as the components of a record get their values, if the record lies there.
+  record_stored_goes :
+      (v : Value) (c : ℕ) (us : List Value) (found : Option (List Value)) (s : State) → Goes s (record_stored_next named v c us found s)
+  record_stored_goes v c us None s h g = tt
+  record_stored_goes v c us (Some before) s h g = record {
+    confined = (stays (record s { heap = stored_from named s.heap v c us }) h g).confined;
+    none_ceases = record_ceases_none s.heap v c us;
+  }
+
+  -- A body goes on as they get them in an object that has been looked for.
+  store_record_goes : (v : Value) (c count : ℕ) (found : Found (Cell Value)) (s : State) → Goes s (store_record_next named v c count found s)
+  store_record_goes v c count on_null s h g = tt
+  store_record_goes v c count on_gone s h g = tt
+  store_record_goes v c count on_other s h g = tt
+  store_record_goes v c count (finds cell) s h g =
+      record_stored_goes v c (newest_ones named count s) (record_in cell.values c count) (without_newest named count s) h g
+
   -- A body goes on by what a frame does, which was the first of what was left to do.
   frame_goes :
       (f : Frame Value) (l : List (Frame Value)) (s : State) → FrameIsConfined w reaches f → TreatsNone f → TakesNone f s.masters
-      → IsWatched w (places s) s.heap → NextLooksElsewhere w.object (at l s) f s.control
+      → IsWatched w (places s) s.heap → NextLooksElsewhere w.object (at l s) f s.control → FirstAssignsBare types Running (f ∷ s.control)
       → OperandsAreConfined w reaches Running (f ∷ s.control) (operands s) → BodyIsConfined w reaches s.control
       → AllGoOn w reaches s.heap (frame_next named types bodies f s)
-  frame_goes (frame.Elaborates ds fs hs) l s confined untreated none p looks reached h = declarations_go ds fs hs s confined.0 confined.1 confined.2 h looks.0
-  frame_goes (frame.Does fs) l s confined untreated none p looks reached h = stmts_go fs l s confined p looks.1 h looks.0
-  frame_goes (frame.Decides fs branches) l s confined untreated none p looks reached h =
+  frame_goes (frame.Elaborates ds fs hs) l s confined untreated none p looks bare reached h = declarations_go ds fs hs s confined.0 confined.1 confined.2 h looks.0
+  frame_goes (frame.Does fs) l s confined untreated none p looks bare reached h = stmts_go fs l s confined p looks.1 bare h looks.0
+  frame_goes (frame.Decides fs branches) l s confined untreated none p looks bare reached h =
       decided_goes fs branches (reads_boolean (newest named s)) (popped s) confined.0 confined.1 h looks.0
-  frame_goes (frame.Repeats condition fs) l s confined untreated none p looks reached h = repeats_go condition fs s confined.0 confined.1 h looks.0
-  frame_goes (frame.Turns condition fs) l s confined untreated none p looks reached h =
+  frame_goes (frame.Repeats condition fs) l s confined untreated none p looks bare reached h = repeats_go condition fs s confined.0 confined.1 h looks.0
+  frame_goes (frame.Turns condition fs) l s confined untreated none p looks bare reached h =
       turned_goes condition fs (reads_boolean (newest named s)) (popped s) confined.0 confined.1 h looks.0
-  frame_goes (frame.Ranges x fs) l s confined untreated none p looks reached h =
+  frame_goes (frame.Ranges x fs) l s confined untreated none p looks bare reached h =
       ranges_go x fs (reads_integer (newest named (popped s))) (reads_integer (newest named s)) (popped (popped s)) confined.0 confined.1 h looks.0
-  frame_goes (frame.Counts x value last fs) l s confined untreated none p looks reached h =
+  frame_goes (frame.Counts x value last fs) l s confined untreated none p looks bare reached h =
       counting_goes (int_le value last) x value last fs s confined.0 confined.1 h looks.0
-  frame_goes frame.Exits l s confined untreated none p looks reached h = exited_goes (reads_boolean (newest named s)) (popped s) h looks.0
-  frame_goes (frame.Handles hs) l s confined untreated none p looks reached h = stays s h looks.0
-  frame_goes frame.Closes l s confined untreated none p looks reached h = stays (at (frame.Leaves Running ∷ s.control) s) (tt, h) refl
-  frame_goes (frame.Leaves mode) l s confined untreated none p looks reached h = leave_goes mode s.masters s none h looks.0
-  frame_goes (frame.Calls procedure b actuals) l s confined untreated none p looks reached h = absurd confined
-  frame_goes (frame.Returns actuals references) l s confined untreated none p looks reached h = absurd confined
-  frame_goes (frame.Evaluates right) l s confined untreated none p looks reached h = right_goes right s confined h looks.0
-  frame_goes (frame.Computes e) l s confined untreated none p looks reached h = expression_goes e s confined h looks.0
-  frame_goes (frame.Follows cs) l s confined untreated none p looks reached h =
+  frame_goes frame.Exits l s confined untreated none p looks bare reached h = exited_goes (reads_boolean (newest named s)) (popped s) h looks.0
+  frame_goes (frame.Handles hs) l s confined untreated none p looks bare reached h = stays s h looks.0
+  frame_goes frame.Closes l s confined untreated none p looks bare reached h = stays (at (frame.Leaves Running ∷ s.control) s) (tt, h) refl
+  frame_goes (frame.Leaves mode) l s confined untreated none p looks bare reached h = leave_goes mode s.masters s none h looks.0
+  frame_goes (frame.Calls procedure b actuals) l s confined untreated none p looks bare reached h = absurd confined
+  frame_goes (frame.Returns actuals references) l s confined untreated none p looks bare reached h = absurd confined
+  frame_goes (frame.Evaluates right) l s confined untreated none p looks bare reached h = right_goes right s confined h looks.0
+  frame_goes (frame.Computes e) l s confined untreated none p looks bare reached h = expression_goes e s confined h looks.0
+  frame_goes (frame.Follows cs) l s confined untreated none p looks bare reached h =
       path_goes (awaits_holder s.control) cs (newest named s) (popped s) looks h refl
-  frame_goes (frame.TestsNull equal) l s confined untreated none p looks reached h = null_test_goes equal (reads_null (newest named s)) (popped s) h looks.0
-  frame_goes (frame.Refers q) l s confined untreated none p looks reached h = absurd confined
-  frame_goes (frame.RefersIn place record_type) l s confined untreated none p looks reached h = absurd confined
-  frame_goes (frame.Opens path) l s confined untreated none p looks reached h = absurd confined
-  frame_goes (frame.OpensIn c) l s confined untreated none p looks reached h = absurd confined
-  frame_goes (frame.Continues links) l s confined untreated none p looks reached h = links_go links s confined h looks.0
-  frame_goes (frame.Applies operator) l s confined untreated none p looks reached h =
+  frame_goes (frame.TestsNull equal) l s confined untreated none p looks bare reached h = null_test_goes equal (reads_null (newest named s)) (popped s) h looks.0
+  frame_goes (frame.Refers q) l s confined untreated none p looks bare reached h = absurd confined
+  frame_goes (frame.RefersIn place record_type) l s confined untreated none p looks bare reached h = absurd confined
+  frame_goes (frame.Opens path) l s confined untreated none p looks bare reached h = absurd confined
+  frame_goes (frame.OpensIn c) l s confined untreated none p looks bare reached h = absurd confined
+  frame_goes (frame.Continues links) l s confined untreated none p looks bare reached h = links_go links s confined h looks.0
+  frame_goes (frame.Applies operator) l s confined untreated none p looks bare reached h =
       outcome_goes (binary_given operator (newest named (popped s)) (newest named s)) (popped (popped s)) h looks.0
-  frame_goes (frame.AppliesAlone operator) l s confined untreated none p looks reached h = outcome_goes (unary_given operator (newest named s)) (popped s) h looks.0
-  frame_goes (frame.Fills items) l s confined untreated none p looks reached h = items_go items s confined h looks.0
-  frame_goes (frame.Copies c record_type) l s confined untreated none p looks reached h =
+  frame_goes (frame.AppliesAlone operator) l s confined untreated none p looks bare reached h = outcome_goes (unary_given operator (newest named s)) (popped s) h looks.0
+  frame_goes (frame.Fills items) l s confined untreated none p looks bare reached h = items_go items s confined h looks.0
+  frame_goes (frame.Copies c record_type) l s confined untreated none p looks bare reached h =
       copies_goes (newest named s) c (width_of types record_type) (look s.heap (newest named s)) (popped s) h looks.0
-  frame_goes (frame.Creates access count) l s confined untreated none p looks reached h =
+  frame_goes (frame.Creates access count) l s confined untreated none p looks bare reached h =
       new_goes access count (words_of types access) (home_of access s.masters) s p h looks.0
-  frame_goes (frame.Stores x) l s confined untreated none p looks reached h = put_goes x (newest named s) (popped s) h looks.0
-  frame_goes (frame.Targets c right) l s confined untreated none p looks reached h =
+  frame_goes (frame.Stores x) l s confined untreated none p looks bare reached h = put_goes x (newest named s) (popped s) h looks.0
+  frame_goes (frame.Targets c right) l s confined untreated none p looks bare reached h =
       target_goes (newest named s) c right (look s.heap (newest named s)) (popped s) reached confined h looks.0
-  frame_goes (frame.StoresIn o c) l s confined untreated none p looks reached h = store_goes o c (newest named s) (look s.heap o) (popped s) h looks.0
-  frame_goes (frame.TargetsRecord c record_type items) l s confined untreated none p looks reached h = absurd confined
-  frame_goes (frame.StoresRecord o c count) l s confined untreated none p looks reached h = absurd confined
-  frame_goes (frame.Assigns record_type) l s confined untreated none p looks reached h = absurd confined
-  frame_goes (frame.Receives c) l s confined untreated none p looks reached h =
+  frame_goes (frame.StoresIn o c) l s confined untreated none p looks bare reached h = store_goes o c (newest named s) (look s.heap o) (popped s) h looks.0
+  frame_goes (frame.TargetsRecord c record_type items) l s confined untreated none p looks bare reached h =
+      record_target_goes (newest named s) c (width_of types record_type) items (look s.heap (newest named s)) (popped s) confined h
+  frame_goes (frame.StoresRecord o c count) l s confined untreated none p looks bare reached h =
+      store_record_goes o c count (look s.heap o) s h looks.0
+  frame_goes (frame.Assigns record_type) l s confined untreated none p looks bare reached h = absurd confined
+  frame_goes (frame.Receives c) l s confined untreated none p looks bare reached h =
       receive_goes (newest named s) c (look s.heap (newest named s)) (popped s) h looks.0
-  frame_goes (frame.FreesIn access c) l s confined untreated none p looks reached h = absurd confined
-  frame_goes (frame.Declares x) l s confined untreated none p looks reached h = stays (owned (declared x) (put x (newest named s) (popped s))) h looks.0
-  frame_goes (frame.DeclaresRecord x record_type) l s confined untreated none p looks reached h = absurd confined
-  frame_goes (frame.Treats v treatment tasks) l s confined untreated none p looks reached h = absurd untreated
-  frame_goes (frame.Awaits v by done of part tasks) l s confined untreated none p looks reached h = absurd confined
-  frame_goes frame.Confines l s confined untreated none p looks reached h = absurd confined
-  frame_goes (frame.Resumes mode) l s confined untreated none p looks reached h = absurd confined
-  frame_goes frame.Writes l s confined untreated none p looks reached h = line_goes (reads_integer (newest named s)) (popped s) h looks.0
-  frame_goes (frame.Ends v) l s confined untreated none p looks reached h = absurd confined
-  frame_goes (frame.GivesBack v cause pool) l s confined untreated none p looks reached h = absurd confined
-  frame_goes (frame.Clears x) l s confined untreated none p looks reached h = absurd confined
-  frame_goes (frame.ClearsIn o c) l s confined untreated none p looks reached h = absurd confined
+  frame_goes (frame.FreesIn access c) l s confined untreated none p looks bare reached h = absurd confined
+  frame_goes (frame.Declares x) l s confined untreated none p looks bare reached h = stays (owned (declared x) (put x (newest named s) (popped s))) h looks.0
+  frame_goes (frame.DeclaresRecord x record_type) l s confined untreated none p looks bare reached h = absurd confined
+  frame_goes (frame.Treats v treatment tasks) l s confined untreated none p looks bare reached h = absurd untreated
+  frame_goes (frame.Awaits v by done of part tasks) l s confined untreated none p looks bare reached h = absurd confined
+  frame_goes frame.Confines l s confined untreated none p looks bare reached h = absurd confined
+  frame_goes (frame.Resumes mode) l s confined untreated none p looks bare reached h = absurd confined
+  frame_goes frame.Writes l s confined untreated none p looks bare reached h = line_goes (reads_integer (newest named s)) (popped s) h looks.0
+  frame_goes (frame.Ends v) l s confined untreated none p looks bare reached h = absurd confined
+  frame_goes (frame.GivesBack v cause pool) l s confined untreated none p looks bare reached h = absurd confined
+  frame_goes (frame.Clears x) l s confined untreated none p looks bare reached h = absurd confined
+  frame_goes (frame.ClearsIn o c) l s confined untreated none p looks bare reached h = absurd confined
 
   -- A jump lands in confined statements, if it lands in any, and comes out of no operation.
   abbrev LandsConfined : Landing Value → Type 0
@@ -574,28 +607,28 @@ module _ (types : List TypeDefinition) (bodies : List BodyForm) (w : View) (reac
   -- A body goes on by a step in any mode.
   step_goes :
       (m : Mode) (k : List (Frame Value)) (s : State) → IsWatched w (places s) s.heap
-      → FirstLooksElsewhere w.object (record s { mode = m; control = k }) m k → IsWithin k s.masters → BodyIsConfined w reaches k
+      → FirstLooksElsewhere w.object (record s { mode = m; control = k }) m k → FirstAssignsBare types m k → IsWithin k s.masters → BodyIsConfined w reaches k
       → OperandsAreConfined w reaches m k (operands s) → AllGoOn w reaches s.heap (next types bodies (record s { mode = m; control = k }))
   unfolding next
-  step_goes Running [] s p looks within h reached = tt
-  step_goes Running (f ∷ k) s p looks within h reached =
+  step_goes Running [] s p looks bare within h reached = tt
+  step_goes Running (f ∷ k) s p looks bare within h reached =
       let c = unless_it_ends (is_return f) (FrameIsConfined w reaches f × BodyIsConfined w reaches k) within.0 h in
-      frame_goes f (f ∷ k) (record s { mode = Running; control = k }) c.0 within.1 within.2 p looks reached c.1
-  step_goes (Raising e) [] s p looks within h reached = tt
-  step_goes (Raising e) (f ∷ k) s p looks within h reached =
+      frame_goes f (f ∷ k) (record s { mode = Running; control = k }) c.0 within.1 within.2 p looks bare reached c.1
+  step_goes (Raising e) [] s p looks bare within h reached = tt
+  step_goes (Raising e) (f ∷ k) s p looks bare within h reached =
       let c = unless_it_ends (is_return f) (FrameIsConfined w reaches f × BodyIsConfined w reaches k) within.0 h in
       jump_goes (Raising e) f (record s { mode = Raising e; control = k }) c.0 c.1 looks
-  step_goes Exiting [] s p looks within h reached = tt
-  step_goes Exiting (f ∷ k) s p looks within h reached =
+  step_goes Exiting [] s p looks bare within h reached = tt
+  step_goes Exiting (f ∷ k) s p looks bare within h reached =
       let c = unless_it_ends (is_return f) (FrameIsConfined w reaches f × BodyIsConfined w reaches k) within.0 h in
       jump_goes Exiting f (record s { mode = Exiting; control = k }) c.0 c.1 looks
-  step_goes Returning [] s p looks within h reached = tt
-  step_goes Returning (f ∷ k) s p looks within h reached =
+  step_goes Returning [] s p looks bare within h reached = tt
+  step_goes Returning (f ∷ k) s p looks bare within h reached =
       let c = unless_it_ends (is_return f) (FrameIsConfined w reaches f × BodyIsConfined w reaches k) within.0 h in
       jump_goes Returning f (record s { mode = Returning; control = k }) c.0 c.1 looks
 
   -- The next step of a confined body leaves it so, and no object ceases to exist.
   pub goes_on :
-      (s : State) → IsWatched w (places s) s.heap → LooksElsewhere w s → IsWithin s.control s.masters → IsConfined w reaches s
+      (s : State) → IsWatched w (places s) s.heap → LooksElsewhere w s → AssignsBare types s → IsWithin s.control s.masters → IsConfined w reaches s
       → AllGoOn w reaches s.heap (next types bodies s)
-  goes_on s p looks within confined = step_goes s.mode s.control s p looks within confined.control confined.operands
+  goes_on s p looks bare within confined = step_goes s.mode s.control s p looks bare within confined.control confined.operands

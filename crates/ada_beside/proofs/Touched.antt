@@ -143,7 +143,7 @@ module _ (types : List TypeDefinition) (w : View) (reaches beside : ℕ → Bool
         → StatementsAreOpen (hidden_beside w beside) no_ghosts s fs
     statements_open no_stmts confined looks = tt
     statements_open (a_stmt (assigns target right) fs) confined looks = holder_open target.root target.selectors confined.0.0 looks
-    statements_open (a_stmt (assigns_record target items) fs) confined looks = absurd confined.0
+    statements_open (a_stmt (assigns_record target items) fs) confined looks = record_open target.object.root target.object.selectors confined.0.0 looks
     statements_open (a_stmt (frees access path) fs) confined looks = absurd confined.0
     statements_open (a_stmt (gets target) fs) confined looks = holder_open target.root target.selectors confined.0 looks
     statements_open (a_stmt f fs) confined looks = tt
@@ -153,17 +153,19 @@ module _ (types : List TypeDefinition) (w : View) (reaches beside : ℕ → Bool
     followed_open awaits [] v leads = tt
     followed_open awaits (c ∷ cs) v leads = (in_sight v, shown_other v c leads.0)
 
-    -- A record is copied out of an object to which an operand leads, whose components do not lie beside the record, if that is the object.
+    -- The components of a record are not hidden that lies in an object to which a value leads: if that is the object, they do not lie beside the record.
+    record_within :
+        (v : Value) (first count : ℕ) → (leads_to w.object v ≡ true → AreNoneOf beside first count) → AreShown (hidden_beside w beside) v first count
+    record_within v first count none i lt = elim (false_or_true (leads_to w.object v)) [
+      | inl other ↦ shown_other v (first + i) other
+      | inr itself ↦ shown_apart v (first + i) (none itself i lt)
+    ]
+
+    -- Such a record is copied.
     copied_open :
         (v : Value) (first count : ℕ) → (leads_to w.object v ≡ true → AreNoneOf beside first count)
         → IsInSight no_ghosts v × AreShown (hidden_beside w beside) v first count
-    copied_open v first count none = (
-      in_sight v,
-      λ i lt. elim (false_or_true (leads_to w.object v)) [
-        | inl other ↦ shown_other v (first + i) other
-        | inr itself ↦ shown_apart v (first + i) (none itself i lt)
-      ],
-    )
+    copied_open v first count none = (in_sight v, record_within v first count none)
 
     -- A frame looks at no hidden component.
     frame_open :
@@ -182,8 +184,8 @@ module _ (types : List TypeDefinition) (w : View) (reaches beside : ℕ → Bool
     frame_open (frame.Copies c t) k confined looks copies untreated none = copied_open (newest named s) c (width_of types t) copies
     frame_open (frame.Targets c right) k confined looks copies untreated none = in_sight (newest named s)
     frame_open (frame.StoresIn v c) k confined looks copies untreated none = in_sight v
-    frame_open (frame.TargetsRecord c t items) k confined looks copies untreated none = absurd confined
-    frame_open (frame.StoresRecord v c count) k confined looks copies untreated none = absurd confined
+    frame_open (frame.TargetsRecord c t items) k confined looks copies untreated none = in_sight (newest named s)
+    frame_open (frame.StoresRecord v c count) k confined looks copies untreated none = in_sight v
     frame_open (frame.Receives c) k confined looks copies untreated none = in_sight (newest named s)
     frame_open (frame.FreesIn access c) k confined looks copies untreated none = absurd confined
     frame_open (frame.Treats v treatment tasks) k confined looks copies untreated none = absurd untreated
@@ -214,27 +216,27 @@ module _ (types : List TypeDefinition) (w : View) (reaches beside : ℕ → Bool
 
     -- A frame writes no hidden component.
     frame_shown :
-        (f : Frame Value) (k : List (Frame Value)) → FrameIsConfined w reaches f → OperandsAreConfined w reaches Running (f ∷ k) (operands s)
-        → FrameWritesShown (hidden_beside w beside) s f
-    frame_shown (frame.StoresIn v c) k confined reached = shown v c confined
-    frame_shown (frame.StoresRecord v c count) k confined reached = absurd confined
-    frame_shown (frame.Receives c) k confined reached = shown (newest named s) c reached
-    frame_shown (frame.ClearsIn v c) k confined reached = absurd confined
-    frame_shown f k confined reached = tt
+        (f : Frame Value) (k : List (Frame Value)) → FrameIsConfined w reaches f → FrameCopiesNone types w.object beside s f
+        → OperandsAreConfined w reaches Running (f ∷ k) (operands s) → FrameWritesShown (hidden_beside w beside) s f
+    frame_shown (frame.StoresIn v c) k confined copies reached = shown v c confined
+    frame_shown (frame.StoresRecord v c count) k confined copies reached = record_within v c count copies
+    frame_shown (frame.Receives c) k confined copies reached = shown (newest named s) c reached
+    frame_shown (frame.ClearsIn v c) k confined copies reached = absurd confined
+    frame_shown f k confined copies reached = tt
 
     -- The first of what is left to do writes no hidden component, in any mode.
     first_shown :
-        (m : Mode) (k : List (Frame Value)) → BodyIsConfined w reaches k → OperandsAreConfined w reaches m k (operands s) → IsWithin k s.masters
-        → FirstWritesShown (hidden_beside w beside) s m k
-    first_shown Running [] confined reached within = tt
-    first_shown Running (f ∷ k) confined reached within =
-        frame_shown f k (unless_it_ends (is_return f) (FrameIsConfined w reaches f × BodyIsConfined w reaches k) within.0 confined).0 reached
-    first_shown (Raising e) [] confined reached within = tt
-    first_shown (Raising e) (f ∷ k) confined reached within = tt
-    first_shown Exiting [] confined reached within = tt
-    first_shown Exiting (f ∷ k) confined reached within = tt
-    first_shown Returning [] confined reached within = tt
-    first_shown Returning (f ∷ k) confined reached within = tt
+        (m : Mode) (k : List (Frame Value)) → BodyIsConfined w reaches k → FirstCopiesNone types w.object beside s m k
+        → OperandsAreConfined w reaches m k (operands s) → IsWithin k s.masters → FirstWritesShown (hidden_beside w beside) s m k
+    first_shown Running [] confined copies reached within = tt
+    first_shown Running (f ∷ k) confined copies reached within =
+        frame_shown f k (unless_it_ends (is_return f) (FrameIsConfined w reaches f × BodyIsConfined w reaches k) within.0 confined).0 copies reached
+    first_shown (Raising e) [] confined copies reached within = tt
+    first_shown (Raising e) (f ∷ k) confined copies reached within = tt
+    first_shown Exiting [] confined copies reached within = tt
+    first_shown Exiting (f ∷ k) confined copies reached within = tt
+    first_shown Returning [] confined copies reached within = tt
+    first_shown Returning (f ∷ k) confined copies reached within = tt
 
   -- The next step of a confined body looks at no hidden component.
   pub untouched :
@@ -243,5 +245,7 @@ module _ (types : List TypeDefinition) (w : View) (reaches beside : ℕ → Bool
   untouched s p looks copies within confined = first_open s p.formal s.mode s.control confined.control looks copies within
 
   -- The next step of a confined body writes no hidden component.
-  pub unwritten : (s : State) → IsWatched w (places s) s.heap → IsWithin s.control s.masters → IsConfined w reaches s → Unwritten (hidden_beside w beside) s
-  unwritten s p within confined = first_shown s p.formal s.mode s.control confined.control confined.operands within
+  pub unwritten :
+      (s : State) → IsWatched w (places s) s.heap → CopiesNone types w.object beside s → IsWithin s.control s.masters → IsConfined w reaches s
+      → Unwritten (hidden_beside w beside) s
+  unwritten s p copies within confined = first_shown s p.formal s.mode s.control confined.control copies confined.operands within

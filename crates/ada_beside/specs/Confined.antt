@@ -1,6 +1,6 @@
--- Of which bodies the law speaks: they free nothing, call nothing, and neither declare, assign nor pass records as wholes, and copy them only as items of new
--- objects; and each of their paths from the formal parameter begins with a component of the record that this is, or is that record, where it is copied or lies
--- around what is. Their variables have numbers below `first`, and 0 is the formal parameter.
+-- Of which bodies the law speaks: they free nothing, call nothing, neither declare nor pass records as wholes, and copy them only as items of new objects or of
+-- records that they assign; and each of their paths from the formal parameter begins with a component of the record that this is, or is that record, where it
+-- lies around what is copied or assigned, or is copied itself. Their variables have numbers below `first`, and 0 is the formal parameter.
 
 use Rattle.std.specs.Prelude.{◌≡◌, ℕ, zero, suc, ◌+◌, ◌<◌, Bool, true, List, [], ◌∷◌, Option, Some, None, ◌⊎◌}
 use Rattle.ada_program.specs.Form.{PathForm, ExpressionForm, integer, boolean, reads, is_null, applied_to, chained, LinksForm, no_more_links, a_link, ItemForm, null_item, item_of_path, item_of_value, item_of_record, RightForm, nothing, value_of, allocates, allocates_default, computes, DeclarationForm, creates_pool, collects, declares, declares_record, StmtForm, skips, assigns, assigns_record, frees, gets, writes, writes_text, chooses, repeats, counts, exits, calls, returns, raises, encloses, StmtsForm, no_stmts, a_stmt, BranchesForm, otherwise, a_branch, HandlersForm, no_handlers, a_handler}
@@ -29,7 +29,7 @@ module _ (first : ℕ) (reaches : ℕ → Bool) where
   abbrev pub PathIsConfined : PathForm → Type 0
   PathIsConfined path = IsConfinedFrom path.root path.selectors
 
-  -- The way to a record that is copied: such a path, or the formal parameter itself.
+  -- The way to a record that is copied or assigned to: such a path, or the formal parameter itself.
   abbrev pub IsCopiedFrom : (root : ℕ) → (selectors : List ℕ) → Type 0
   IsCopiedFrom x [] = x < first
   IsCopiedFrom x (c ∷ cs) = IsConfinedFrom x (c ∷ cs)
@@ -87,11 +87,11 @@ module _ (first : ℕ) (reaches : ℕ → Bool) where
   DeclarationsAreConfined (d ∷ ds) = DeclarationIsConfined d × DeclarationsAreConfined ds
 
   abbrev mutual
-    -- A statement that frees nothing, calls nothing, and assigns no record as a whole.
+    -- A statement that frees nothing and calls nothing.
     pub StatementIsConfined : StmtForm → Type 0
     StatementIsConfined skips = Unit {0}
     StatementIsConfined (assigns target right) = PathIsConfined target × RightIsConfined right
-    StatementIsConfined (assigns_record target items) = ⊥
+    StatementIsConfined (assigns_record target items) = IsCopiedFrom target.object.root target.object.selectors × ItemsAreConfined items
     StatementIsConfined (frees access path) = ⊥
     StatementIsConfined (gets target) = PathIsConfined target
     StatementIsConfined (writes e) = ExpressionIsConfined e
@@ -162,8 +162,8 @@ FrameIsConfined w reaches (frame.Creates access count) = Unit {0}
 FrameIsConfined w reaches (frame.Stores x) = IsVariable w.tracks.first x
 FrameIsConfined w reaches (frame.Targets c right) = RightIsConfined w.tracks.first reaches right
 FrameIsConfined w reaches (frame.StoresIn v c) = StoresReached w reaches v c
-FrameIsConfined w reaches (frame.TargetsRecord c t items) = ⊥
-FrameIsConfined w reaches (frame.StoresRecord v c count) = ⊥
+FrameIsConfined w reaches (frame.TargetsRecord c t items) = ItemsAreConfined w.tracks.first reaches items
+FrameIsConfined w reaches (frame.StoresRecord v c count) = Unit {0}
 FrameIsConfined w reaches (frame.Assigns t) = ⊥
 FrameIsConfined w reaches (frame.Receives c) = Unit {0}
 FrameIsConfined w reaches (frame.FreesIn access c) = ⊥

@@ -60,8 +60,8 @@ AllGoOn w reaches before (tells request e s) = GoesOn w reaches before s
 AllGoOn w reaches before (asks request answers) = (granted : Bool) → GoesOn w reaches before (answers granted)
 AllGoOn w reaches before (picks count taking) = ⊥
 
--- A step of such a body that looks at the object by the formal parameter alone, and copies nothing that lies beside the record, neither looks at that nor writes
--- it, and leaves the body so.
+-- A step of such a body that looks at the object by the formal parameter alone, copies nothing that lies beside the record and stores nothing there with a record,
+-- and assigns no record with controlled parts, neither looks at that nor writes it, and leaves the body so.
 abbrev pub BodiesStayWithinTheirRecord : Type 0
 BodiesStayWithinTheirRecord =
     (types : List TypeDefinition) (bodies : List BodyForm) (w : View) (reaches beside : ℕ → Bool) (s : State) → LieBeside w reaches beside

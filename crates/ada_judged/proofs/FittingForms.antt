@@ -151,7 +151,7 @@ module _ (types : List TypeForm) (tracks : Tracks) (own : List VariableForm) (p 
   }
 
   -- What is assigned.
-  filled : (found : Option (List ComponentKind)) (items : List ItemForm) → ItemsAreSimple tracks.first items → ItemsAreOfRecord items → is_filled types all found (seen_items tracks items) ≡ is_filled types own found items
+  pub filled : (found : Option (List ComponentKind)) (items : List ItemForm) → ItemsAreSimple tracks.first items → ItemsAreOfRecord items → is_filled types all found (seen_items tracks items) ≡ is_filled types own found items
   filled None items s r = refl
   filled (Some components) items s r = items_kind items components s r
 

@@ -16,7 +16,7 @@ use Rattle.ada_program.specs.declared.program.VariableKind.{VariableKind}
 use Rattle.ada_program.specs.declared.program.VariableKind.TheVariants as variable
 use Rattle.ada_program.specs.Form.{PathForm, ExpressionForm, integer, boolean, reads, is_null, applied_to, chained, LinksForm, no_more_links, a_link, ItemForm, null_item, item_of_path, item_of_value, item_of_record, RightForm, nothing, value_of, allocates, allocates_default, computes, DeclarationForm, creates_pool, collects, declares, declares_record, StmtForm, skips, assigns, assigns_record, frees, gets, writes, writes_text, chooses, repeats, counts, exits, calls, returns, raises, encloses, StmtsForm, no_stmts, a_stmt, BranchesForm, otherwise, a_branch, HandlersForm, no_handlers, a_handler}
 use Rattle.ada_program.specs.ProgramForm.{TypeForm, VariableForm}
-use Rattle.ada_program.specs.WellFormed.{variable_kind, selected_kind, is_borrower, selectors_kind, root_kind, scalar_of, value_access, path_kind, path_access, is_this, is_type, given_one, given_two, given_alike, unary_type, binary_type, type_of, chain_type, has_type, access_of, reached_components, record_components, object_components, begins_with_record, has_record_at, has_parts_at, parts_named, object_named, component_item_fits, first_fits, item_fits, item_width, items_fit, is_filled, access_fits, scalar_fits, right_fits, names_borrower, lends_to, names_before, initial_fits, is_freed_by, condition_fits, has_statement, choice_fits, Profile, collections_first, collection_fits, declarations_fit, statement_fits, stmts_fit, branches_fit, handlers_fit}
+use Rattle.ada_program.specs.WellFormed.{variable_kind, selected_kind, is_borrower, selectors_kind, root_kind, scalar_of, value_access, path_kind, path_access, is_this, is_type, given_one, given_two, given_alike, unary_type, binary_type, type_of, chain_type, has_type, access_of, reached_components, record_components, object_components, begins_with_record, has_record_at, has_parts_at, parts_named, object_named, component_item_fits, first_fits, item_fits, item_width, items_fit, is_filled, access_fits, scalar_fits, right_fits, names_borrower, lends_to, names_before, initial_fits, item_owns, finalization_of, copies_whole, record_fits, is_freed_by, condition_fits, has_statement, choice_fits, Profile, collections_first, collection_fits, declarations_fit, statement_fits, stmts_fit, branches_fit, handlers_fit}
 use Rattle.ada_flow.specs.Tracking.{Tracks, is_component, is_one_of}
 use Rattle.ada_tracked.proofs.Lists.{is_same}
 use Rattle.ada_judged.specs.Fitting.{AreOfAccess, TracksComponents, PathIsOfRecord, ExpressionIsOfRecord, LinksAreOfRecord, ConditionIsOfRecord, ItemIsOfRecord, ItemsAreOfRecord, RightIsOfRecord, DeclarationIsOfRecord, DeclarationsAreOfRecord, StatementIsOfRecord, StatementsAreOfRecord, BranchesAreOfRecord, HandlersAreOfRecord}
@@ -261,7 +261,16 @@ module _ (types : List TypeForm) (tracks : Tracks) (own : List VariableForm) (p 
           let b = lends_to own (names_borrower own target) right in
           let fitting = and_left a b h in
           (path_record target (right_there types own (path_kind types own target) right fitting), right_record (path_kind types own target) right fitting)
-      statement_record inside (assigns_record target items) h = tt
+      statement_record inside (assigns_record target items) h =
+          let k = path_kind types own target.object in
+          let components = record_components types target.record_type in
+          let a = has_record_at (object_components types (access_of k)) target.first components in
+          let b = has_parts_at types target.record_type (object_named types (access_of k)) target.first target.part in
+          let c = record_fits types own target.record_type items in
+          let d = is_filled types own components items in
+          let e = list_all (item_owns own) items in
+          let f = copies_whole target.record_type (finalization_of types target.record_type) items in
+          (path_record target.object (record_there types k target.first components (and_left a b (and_left (a && b) c h))), filled_record components items (and_left d e (and_left (d && e) f (and_right (a && b) c h))))
       statement_record inside (frees access path) h =
           let a = is_freed_by types access (path_access types own path) in
           let b = not (names_borrower own path) in

@@ -1,24 +1,26 @@
 -- Statements, branches and handlers over the variables as they are judged.
 
-use Rattle.std.proofs.Common.{◌≡◌, ℕ, Bool, true, false, List, ◌∷◌, ◌++◌, Option, Some, refl, ap, ◌∙◌}
-use Rattle.std.specs.Prelude.{◌&&◌, ◌||◌, not, if◌then◌else◌, is_some}
+use Rattle.std.proofs.Common.{◌≡◌, ℕ, suc, ◌<◌, Bool, true, false, List, [], ◌∷◌, ◌++◌, length, Option, Some, None, refl, ap, ◌∙◌}
+use Rattle.std.specs.Prelude.{◌==◌, ◌&&◌, ◌||◌, not, if◌then◌else◌, is_some}
 use Rattle.std.specs.List.{list_all}
 use Rattle.ada_program.specs.declared.program.Exception.{Exception}
 use Rattle.ada_program.specs.declared.program.Exception.TheVariants.{ConstraintError, EndError}
 use Rattle.ada_program.specs.declared.program.ScalarType.TheVariants.{Integer, Boolean}
 use Rattle.ada_program.specs.declared.program.VariableKind.{VariableKind}
-use Rattle.ada_program.specs.Form.{StmtForm, skips, assigns, assigns_record, frees, gets, writes, writes_text, chooses, repeats, counts, exits, calls, returns, raises, encloses, StmtsForm, no_stmts, a_stmt, BranchesForm, otherwise, a_branch, HandlersForm, no_handlers, a_handler}
+use Rattle.ada_program.specs.declared.program.Finalization.{Finalization}
+use Rattle.ada_program.specs.Form.{RecordPathForm, ItemForm, null_item, item_of_path, item_of_value, item_of_record, StmtForm, skips, assigns, assigns_record, frees, gets, writes, writes_text, chooses, repeats, counts, exits, calls, returns, raises, encloses, StmtsForm, no_stmts, a_stmt, BranchesForm, otherwise, a_branch, HandlersForm, no_handlers, a_handler}
 use Rattle.ada_program.specs.Handling.{some_takes, handler_of, is_taken}
 use Rattle.ada_program.specs.ProgramForm.{TypeForm, VariableForm}
-use Rattle.ada_program.specs.WellFormed.{Creation, of_variable, variable_kind, is_this, scalar_of, is_type, path_kind, path_access, has_type, right_fits, names_borrower, lends_to, is_freed_by, condition_fits, has_statement, choice_fits, declarations_fit, statement_fits, stmts_fit, branches_fit, handlers_fit}
+use Rattle.ada_program.specs.WellFormed.{access_of, has_parts_at, has_record_at, object_components, object_named, record_components, finalization_of, is_record_item, is_copy, copies_whole, is_filled, item_owns, is_record_path, record_fits, Creation, of_variable, variable_kind, is_this, scalar_of, is_type, path_kind, path_access, has_type, right_fits, names_borrower, lends_to, is_freed_by, condition_fits, has_statement, choice_fits, declarations_fit, statement_fits, stmts_fit, branches_fit, handlers_fit}
 use Rattle.ada_program.specs.Nested.{collected, record_objects, collection_nests, record_nests, Callees, statements_nest, handlers_nest}
-use Rattle.ada_effects.specs.Effects.{path_raises, untaken, right_raises, right_starts, ending_frees, stmts_raise}
+use Rattle.ada_effects.specs.Effects.{record_path_raises, items_raise, path_raises, untaken, right_raises, right_starts, ending_frees, stmts_raise}
 use Rattle.ada_flow.specs.Tracking.{Tracks, seen, judged}
-use Rattle.ada_tracked.specs.Forms.{seen_expression, seen_condition, seen_right, seen_declarations, seen_stmt, seen_stmts, seen_branches, seen_handlers}
-use Rattle.ada_tracked.specs.Simple.{StatementIsSimple, StatementsAreSimple, BranchesAreSimple, HandlersAreSimple}
-use Rattle.ada_judged.specs.Fitting.{TracksComponents, StatementIsOfRecord, StatementsAreOfRecord, BranchesAreOfRecord, HandlersAreOfRecord, StatementNamesBefore, StatementsNameBefore, BranchesNameBefore, HandlersNameBefore, StatementFits, StatementsFit, BranchesFit, HandlersFit}
-use Rattle.ada_judged.proofs.FittingPaths.{and_left, and_right, and_both, front_kind, path_fits}
-use Rattle.ada_judged.proofs.FittingForms.{below, expression_fits, conditions_fit, right_is_fit, declarations_are_fit}
+use Rattle.ada_tracked.specs.Forms.{seen_expression, seen_condition, seen_record, seen_item, seen_items, seen_right, seen_declarations, seen_stmt, seen_stmts, seen_branches, seen_handlers}
+use Rattle.ada_tracked.specs.Simple.{ItemsAreSimple, StatementIsSimple, StatementsAreSimple, BranchesAreSimple, HandlersAreSimple}
+use Rattle.ada_judged.specs.Fitting.{TracksComponents, PathIsOfRecord, ItemsAreOfRecord, StatementIsOfRecord, StatementsAreOfRecord, BranchesAreOfRecord, HandlersAreOfRecord, StatementNamesBefore, StatementsNameBefore, BranchesNameBefore, HandlersNameBefore, StatementFits, StatementsFit, BranchesFit, HandlersFit}
+use Rattle.ada_judged.proofs.FittingPaths.{and_left, and_right, and_both, front_kind, inside_fits, path_fits}
+use Rattle.ada_judged.proofs.FittingForms.{below, expression_fits, conditions_fit, item_list_fits, filled, right_is_fit, declarations_are_fit}
+use Rattle.ada_judged.proofs.ObeyingPaths.{sees, behind_alike}
 
 -- An exception that the first handler takes, or one behind it.
 taken_by : (b : Bool) (fs gs : StmtsForm) (one other : Option StmtsForm) → is_some other ≡ is_some one → is_some (if b then Some gs else other) ≡ is_some (if b then Some fs else one)
@@ -46,6 +48,42 @@ module _ (types : List TypeForm) (tracks : Tracks) (own : List VariableForm) (p 
       ∙ ap (λ (xs : List ℕ). nest callees around vs xs fs hs) records
       ∙ ap (λ (b : Bool). (list_all (collection_nests types around (vs ++ around)) vs && list_all (record_nests types (vs ++ around)) ts) && b && handlers_nest types callees (vs ++ around) hs) statements
       ∙ ap (λ (b : Bool). (list_all (collection_nests types around (vs ++ around)) vs && list_all (record_nests types (vs ++ around)) ts) && statements_nest types callees (vs ++ around) gs && b) handlers
+
+  -- A record that is assigned.
+  as_many : (items : List ItemForm) → length (seen_items tracks items) ≡ length items
+  as_many [] = refl
+  as_many (i ∷ is) = ap (λ (n : ℕ). suc n) (as_many is)
+
+  copied_one : (t : ℕ) (i : ItemForm) → is_record_item t (seen_item tracks i) ≡ is_record_item t i
+  copied_one t null_item = refl
+  copied_one t (item_of_path path) = refl
+  copied_one t (item_of_value e) = refl
+  copied_one t (item_of_record q) = refl
+
+  copied_alike : (t : ℕ) (items : List ItemForm) → is_copy t (seen_items tracks items) ≡ is_copy t items
+  copied_alike t [] = refl
+  copied_alike t (i ∷ is) = ap (λ (b : Bool). b && (length (seen_items tracks is) == 0)) (copied_one t i) ∙ ap (λ (n : ℕ). is_record_item t i && (n == 0)) (as_many is)
+
+  whole_alike : (t : ℕ) (f : Option Finalization) (items : List ItemForm) → copies_whole t f (seen_items tracks items) ≡ copies_whole t f items
+  whole_alike t None items = refl
+  whole_alike t (Some f) items = ap (λ (b : Bool). not f.limited && b) (copied_alike t items)
+
+  pub same_record :
+      (target : RecordPathForm) (items : List ItemForm) → target.object.root < tracks.first → PathIsOfRecord target.object → ItemsAreSimple tracks.first items → ItemsAreOfRecord items
+      → (is_record_path types all (seen_record tracks target) && record_fits types all target.record_type (seen_items tracks items))
+      ≡ (is_record_path types own target && record_fits types own target.record_type items)
+  same_record target items inside of_record s r =
+      let components = record_components types target.record_type in
+      let js = seen_items tracks items in
+      let kind = (inside_fits types tracks own p target.object inside of_record).kind in
+      let v = item_list_fits types tracks own p items s r in
+      ap (λ (k : Option VariableKind). (has_record_at (object_components types (access_of k)) target.first components
+      && has_parts_at types target.record_type (object_named types (access_of k)) target.first target.part) && record_fits types all target.record_type js) kind
+      ∙ ap (λ (b : Bool). is_record_path types own target && (b && list_all (item_owns all) js && copies_whole target.record_type (finalization_of types target.record_type) js))
+      (filled types tracks own p components items s r)
+      ∙ ap (λ (b : Bool). is_record_path types own target && (is_filled types own components items && b && copies_whole target.record_type (finalization_of types target.record_type) js)) v.owns
+      ∙ ap (λ (b : Bool). is_record_path types own target && (is_filled types own components items && list_all (item_owns own) items && b))
+      (whole_alike target.record_type (finalization_of types target.record_type) items)
 
   mutual
     statement_is_fit : (f : StmtForm) → StatementIsSimple tracks.first f → StatementIsOfRecord tracks f → StatementFits types own all (StatementNamesBefore tracks f) f (seen_stmt tracks f)
@@ -76,7 +114,19 @@ module _ (types : List TypeForm) (tracks : Tracks) (own : List VariableForm) (p 
               ∙ ap (λ (b : Bool). ((among ConstraintError && path_raises target) || right_raises among right) || b) (v.may_start effects.implicit among);
           may_free = λ effects access. v.may_free effects.implicit access;
         }
-    statement_is_fit (assigns_record target items) s r = absurd s
+    statement_is_fit (assigns_record target items) s r =
+        let v = item_list_fits types tracks own p items s.1 r.1 in
+        let behind = behind_alike tracks target.object (seen tracks target.object) (sees tracks target.object) in
+        record {
+          fits = λ texts exceptions callable inside h before. same_record target items s.0 r.0 s.1 r.1 ∙ h;
+          frees_own = refl;
+          creates = refl;
+          nests = λ callees around. refl;
+          may_raise = λ effects among.
+              ap (λ (b : Bool). among ConstraintError && (b || items_raise (seen_items tracks items))) behind
+              ∙ ap (λ (b : Bool). among ConstraintError && (record_path_raises target || b)) v.may_raise;
+          may_free = λ effects access. refl;
+        }
     statement_is_fit (frees access path) s r =
         let q = path_fits types tracks own p path s r in
         record {

@@ -16,6 +16,8 @@ pub mod ObeyingAssignments
 pub mod ObeyingForms
 -- what loops start with
 pub mod ObeyingLoops
+-- records that are assigned as wholes
+pub mod ObeyingRecords
 -- statements and declarations
 pub mod ObeyingStatements
 -- that variables stand for tracked components where a body is judged

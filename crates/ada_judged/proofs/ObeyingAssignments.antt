@@ -49,7 +49,7 @@ freed_less false false (Own r) s t h e = refl
 freed_less false false (Alias r) s t h e = refl
 freed_less false false Lost s t h e = absurd (cc)
 
-passed_less : (a b : Bool) (hold : Hold) (s t : Spot) → (b ≡ true → a ≡ true) → passed_by a hold s ≡ None → passed_by b hold t ≡ None
+pub passed_less : (a b : Bool) (hold : Hold) (s t : Spot) → (b ≡ true → a ≡ true) → passed_by a hold s ≡ None → passed_by b hold t ≡ None
 passed_less true b Null s t h e = absurd (cc)
 passed_less true b (Kept r) s t h e = absurd (cc)
 passed_less true b (Own r) s t h e = absurd (cc)

@@ -7,10 +7,10 @@ use Rattle.ada_program.specs.declared.program.Exception.{Exception}
 use Rattle.ada_program.specs.declared.program.Exception.TheVariants.{ConstraintError, StorageError, EndError}
 use Rattle.ada_program.specs.Form.{PathForm, ExpressionForm, ItemForm, null_item, item_of_path, item_of_value, item_of_record, RightForm, nothing, value_of, allocates, allocates_default, computes, DeclarationForm, creates_pool, collects, declares, declares_record, StmtForm, skips, assigns, assigns_record, frees, gets, writes, writes_text, chooses, repeats, counts, exits, calls, returns, raises, encloses, StmtsForm, no_stmts, a_stmt, BranchesForm, otherwise, a_branch, HandlersForm, no_handlers, a_handler}
 use Rattle.ada_program.specs.Handling.{some_takes, handler_of, is_taken}
-use Rattle.ada_effects.specs.Effects.{Effects, Implicit, path_raises, expression_raises, item_raises, items_raise, condition_raises, right_raises, right_starts, declaration_raises, declarations_raise, untaken, stmt_raises, stmts_raise, branches_raise, handlers_raise, passes}
+use Rattle.ada_effects.specs.Effects.{Effects, Implicit, record_path_raises, path_raises, expression_raises, item_raises, items_raise, condition_raises, right_raises, right_starts, declaration_raises, declarations_raise, untaken, stmt_raises, stmts_raise, branches_raise, handlers_raise, passes}
 use Rattle.ada_flow.specs.Tracking.{Tracks, seen}
 use Rattle.ada_flow.specs.Flow.{leaves_path, clears, begins_pair, has_exit, have_exit, branches_have_exit, handlers_have_exit, is_left, collected, declared, gone_with}
-use Rattle.ada_tracked.specs.Forms.{seen_expression, seen_condition, seen_item, seen_items, seen_right, seen_declaration, seen_declarations, seen_stmt, seen_stmts, seen_branches, seen_handlers}
+use Rattle.ada_tracked.specs.Forms.{seen_expression, seen_condition, seen_record, seen_item, seen_items, seen_right, seen_declaration, seen_declarations, seen_stmt, seen_stmts, seen_branches, seen_handlers}
 use Rattle.ada_tracked.specs.Simple.{PathIsSimple}
 use Rattle.ada_tracked.proofs.Lists.{apart_is}
 use Rattle.ada_tracked.proofs.Paths.{within}
@@ -163,7 +163,7 @@ module _ (tracks : Tracks) where
   item_raises_alike (item_of_value e) g = expression_raises_alike tracks e g
   item_raises_alike (item_of_record p) g = behind_alike tracks p.object (seen tracks p.object) (sees tracks p.object)
 
-  items_raise_alike : (is : List ItemForm) → ItemsAreOrderly tracks is → items_raise (seen_items tracks is) ≡ items_raise is
+  pub items_raise_alike : (is : List ItemForm) → ItemsAreOrderly tracks is → items_raise (seen_items tracks is) ≡ items_raise is
   items_raise_alike [] g = refl
   items_raise_alike (i ∷ is) g = ap (λ (b : Bool). b || items_raise (seen_items tracks is)) (item_raises_alike i g.0) ∙ ap (λ (b : Bool). item_raises i || b) (items_raise_alike is g.1)
 
@@ -216,7 +216,10 @@ module _ (tracks : Tracks) where
         (and_alike (p ConstraintError) (path_raises (seen tracks target)) (q ConstraintError) (path_raises target) (h ConstraintError) (raises_alike tracks target (seen tracks target) g.0.1 (sees tracks target)))
         (right_raises_alike p q h right g.1))
         (right_starts_alike effects.implicit p q h right)
-    stmt_raises_alike effects (assigns_record target items) p q h g = absurd g
+    stmt_raises_alike effects (assigns_record target items) p q h g =
+        and_alike (p ConstraintError) (record_path_raises (seen_record tracks target) || items_raise (seen_items tracks items)) (q ConstraintError) (record_path_raises target || items_raise items) (h ConstraintError)
+        (or_alike (record_path_raises (seen_record tracks target)) (items_raise (seen_items tracks items)) (record_path_raises target) (items_raise items)
+        (behind_alike tracks target.object (seen tracks target.object) (sees tracks target.object)) (items_raise_alike items g.1))
     stmt_raises_alike effects (frees access path) p q h g =
         and_alike (p ConstraintError) (path_raises (seen tracks path)) (q ConstraintError) (path_raises path) (h ConstraintError) (raises_alike tracks path (seen tracks path) g.1 (sees tracks path))
     stmt_raises_alike effects (gets target) p q h g =

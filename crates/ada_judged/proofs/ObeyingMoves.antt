@@ -241,7 +241,7 @@ module _ (tracks : Tracks) where
     named_seen earlier (item_of_value f) = refl
     named_seen earlier (item_of_record p) = refl
 
-    items_unbroken :
+    pub items_unbroken :
         (earlier : List PathForm) (is : List ItemForm) → AllSimple earlier → ItemsAreOrderly tracks is → broken_among tracks holds (uses_in_items types spot target earlier is) ≡ None
         → broken_among no_tracks holds (uses_in_items types spot judged (seen_paths earlier) (seen_items tracks is)) ≡ None
     items_unbroken earlier [] h g e = refl

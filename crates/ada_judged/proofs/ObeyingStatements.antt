@@ -6,7 +6,7 @@ use Rattle.ada_text.specs.declared.spot.Spot.{Spot}
 use Rattle.ada_program.specs.Form.{ExpressionForm, RightForm, nothing, value_of, allocates, allocates_default, computes, DeclarationForm, creates_pool, collects, declares, declares_record, StmtForm, skips, assigns, assigns_record, frees, gets, writes, writes_text, chooses, repeats, counts, exits, calls, returns, raises, encloses, StmtsForm, no_stmts, a_stmt, BranchesForm, otherwise, a_branch, HandlersForm, no_handlers, a_handler}
 use Rattle.ada_program.specs.ProgramForm.{TypeForm, VariableForm}
 use Rattle.ada_program.specs.WellFormed.{is_borrower}
-use Rattle.ada_effects.specs.Effects.{Implicit, passes}
+use Rattle.ada_effects.specs.Effects.{Implicit, assignment_frees, passes}
 use Rattle.ada_flow.specs.declared.rule.Hold.TheVariants.{Lost}
 use Rattle.ada_flow.specs.Tracking.{Tracks, no_tracks}
 use Rattle.ada_flow.specs.Flow.{Holds, Outcome, goes, then_flow, ends_with, computed, gives, begins_pair, either_of, opened_by_all, loop_flow, is_left, Gone, gone_with, leaves_finalized, handled, Around, in_loop, in_block, exit_of, left_finalized, exit_flow, declared_at, declaration_flow, declarations_flow, bounds_flow, counting_start, return_flow, stmt_flow, stmts_flow, branches_flow, handlers_flow}
@@ -16,6 +16,7 @@ use Rattle.ada_judged.proofs.ObeyingExpressions.{same_outcome, computed_alike, e
 use Rattle.ada_judged.proofs.ObeyingOutcomes.{within_alike, then_alike, either_alike, handled_alike, unless_worse_alike}
 use Rattle.ada_judged.proofs.ObeyingMoves.{to_none, IsCleared, gives_alike}
 use Rattle.ada_judged.proofs.ObeyingAssignments.{initializes_alike, frees_alike, gets_alike, assigns_alike}
+use Rattle.ada_judged.proofs.ObeyingRecords.{gives_record_alike}
 use Rattle.ada_judged.proofs.ObeyingForms.{pair_seen, is_left_alike, gone_alike, passes_alike}
 use Rattle.ada_judged.proofs.ObeyingLoops.{loop_alike, all_opened}
 
@@ -109,7 +110,8 @@ module _ (types : List TypeForm) (variables : List VariableForm) (tracks : Track
         → GoesAlike (stmt_flow types variables (here around) cleared f holds) (stmt_flow types variables (around_judged around) other (seen_stmt tracks f) holds)
     stmt_alike skips around cleared other holds h p = same_outcome (ends_with false holds holds) (ends_with false holds holds) refl
     stmt_alike (assigns target right) around cleared other holds h p = assigns_alike types variables tracks stand around.effects.implicit cleared other target right holds h.0 h.1 p
-    stmt_alike (assigns_record target items) around cleared other holds h p = absurd h
+    stmt_alike (assigns_record target items) around cleared other holds h p =
+        gives_record_alike types variables tracks stand (λ t. assignment_frees around.effects.implicit t target.record_type) target items holds h.0 h.1
     stmt_alike (frees access path) around cleared other holds h p = frees_alike types variables tracks stand around.effects.implicit path holds h
     stmt_alike (gets target) around cleared other holds h p = gets_alike types variables tracks stand target holds h.1
     stmt_alike (writes e) around cleared other holds h p = computed_alike tracks e holds h

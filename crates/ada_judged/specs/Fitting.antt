@@ -99,11 +99,12 @@ DeclarationsAreOfRecord [] = Unit {0}
 DeclarationsAreOfRecord (d ∷ ds) = DeclarationIsOfRecord d × DeclarationsAreOfRecord ds
 
 abbrev mutual
-  -- Those of a statement do, other than of a call or where a record is assigned as a whole; and the next number of the input goes to no tracked component.
+  -- Those of a statement do, other than of a call, and so does the way to a record that is assigned as a whole; and the next number of the input goes to no
+  -- tracked component.
   pub StatementIsOfRecord : Tracks → StmtForm → Type 0
   StatementIsOfRecord tracks skips = Unit {0}
   StatementIsOfRecord tracks (assigns target right) = PathIsOfRecord target × RightIsOfRecord right
-  StatementIsOfRecord tracks (assigns_record target items) = Unit {0}
+  StatementIsOfRecord tracks (assigns_record target items) = PathIsOfRecord target.object × ItemsAreOfRecord items
   StatementIsOfRecord tracks (frees access path) = PathIsOfRecord path
   StatementIsOfRecord tracks (gets target) = PathIsOfRecord target × (is_tracked tracks target ≡ false)
   StatementIsOfRecord tracks (writes e) = ExpressionIsOfRecord e

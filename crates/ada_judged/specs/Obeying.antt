@@ -13,8 +13,8 @@ use Rattle.ada_flow.specs.Flow.{Holds, Outcome, goes, then_flow, Around, Keeping
 use Rattle.ada_tracked.specs.Forms.{seen_stmts, seen_branches, seen_handlers, seen_declarations}
 use Rattle.ada_tracked.specs.Simple.{IsVariable, PathIsSimple}
 
--- Of which forms the law speaks: they call nothing, neither declare, assign nor pass records as wholes, and copy them only as items of new objects, as the
--- forms of which the law on runs does; and besides a path from the formal parameter follows nothing to its first component, since that is a record object, and
+-- Of which forms the law speaks: they call nothing, neither declare nor pass records as wholes, and copy them only as items of new objects or of records that
+-- they assign, as the forms of which the law on runs does; and besides a path from the formal parameter follows nothing to its first component, since that is a record object, and
 -- the next number of the input goes to no tracked component, since those are of access types.
 
 -- A path from a variable of the body, or from a component of its formal parameter, to which nothing is followed.
@@ -41,7 +41,7 @@ abbrev pub ConditionIsOrderly : Tracks → Option ExpressionForm → Type 0
 ConditionIsOrderly tracks None = Unit {0}
 ConditionIsOrderly tracks (Some e) = ExpressionIsOrderly tracks e
 
--- A way to a record that is copied is so too, or it is the formal parameter itself, which is a record object.
+-- A way to a record that is copied or assigned to is so too, or it is the formal parameter itself, which is a record object.
 abbrev pub WayIsOrderly : Tracks → PathForm → Type 0
 WayIsOrderly tracks path = (path.root < tracks.first) × (path.root ≡ 0 → path.of_record ≡ true)
 
@@ -78,11 +78,11 @@ DeclarationsAreOrderly tracks [] = Unit {0}
 DeclarationsAreOrderly tracks (d ∷ ds) = DeclarationIsOrderly tracks d × DeclarationsAreOrderly tracks ds
 
 abbrev mutual
-  -- A statement that neither calls, nor assigns a record as a whole, nor reads to a tracked component.
+  -- A statement that neither calls nor reads to a tracked component.
   pub StatementIsOrderly : Tracks → StmtForm → Type 0
   StatementIsOrderly tracks skips = Unit {0}
   StatementIsOrderly tracks (assigns target right) = PathIsOrderly tracks target × RightIsOrderly tracks right
-  StatementIsOrderly tracks (assigns_record target items) = ⊥
+  StatementIsOrderly tracks (assigns_record target items) = WayIsOrderly tracks target.object × ItemsAreOrderly tracks items
   StatementIsOrderly tracks (frees access path) = PathIsOrderly tracks path
   StatementIsOrderly tracks (gets target) = PathIsOrderly tracks target × (is_tracked tracks target ≡ false)
   StatementIsOrderly tracks (writes e) = ExpressionIsOrderly tracks e

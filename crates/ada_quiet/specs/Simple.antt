@@ -1,14 +1,16 @@
 -- Bodies of an Adjust whose components of access types are tracked (7.6): they allocate objects without controlled parts, and free some where they may, move
--- and follow, call nothing, copy no record but into what they allocate, and declare variables alone. Flow judges such a body as one that has a variable for each
--- of those components.
+-- and follow, call nothing, assign no record with controlled parts, and declare variables alone. Flow judges such a body as one that has a variable for each of
+-- those components.
 
-use Rattle.std.specs.Prelude.{Bool, true, false, ◌&&◌, List, drop, Option, Some, None}
+use Rattle.std.specs.Prelude.{Bool, true, false, ◌&&◌, not, List, drop, Option, Some, None, is_some}
 use Rattle.std.specs.List.{list_all, slice_get}
 use Rattle.ada_program.specs.Form.{RightForm, nothing, value_of, allocates, allocates_default, computes, StmtForm, skips, assigns, assigns_record, frees, gets, writes, writes_text, chooses, repeats, counts, exits, calls, returns, raises, encloses, StmtsForm, no_stmts, a_stmt, BranchesForm, otherwise, a_branch, HandlersForm, no_handlers, a_handler, DeclarationForm, creates_pool, collects, declares, declares_record}
 use Rattle.ada_program.specs.declared.program.ProcedureNo.{ProcedureNo}
 use Rattle.ada_program.specs.declared.program.VariableKind.{VariableKind}
 use Rattle.ada_program.specs.declared.program.VariableKind.TheVariants as variable
 use Rattle.ada_program.specs.ProgramForm.{TypeForm, BodyForm, ProgramForm}
+use Rattle.ada_program.specs.WellFormed.{finalization_of}
+use Rattle.ada_quiet.specs.Apart.{is_bare_item}
 use Rattle.ada_quiet.specs.Bare.{has_bare_objects}
 
 -- What is assigned (5.2) is no new object (4.8), or one without controlled parts.
@@ -33,12 +35,13 @@ are_simple_declarations types ds = list_all (is_simple_declaration types) ds
 -- Where the bodies may free objects, or where not.
 module _ (types : List TypeForm) (may_free : Bool) where
   abbrev mutual
-    -- A statement assigns to no record as a whole (5.2), allocates and frees no object with controlled parts (4.8, 13.11.2), frees none where it may not, and
-    -- calls nothing (6.4).
+    -- A statement assigns to no record with controlled parts as a whole (5.2, 7.6), allocates and frees no object with such parts (4.8, 13.11.2), frees none
+    -- where it may not, and calls nothing (6.4).
     pub is_simple_stmt : StmtForm → Bool
     is_simple_stmt skips = true
     is_simple_stmt (assigns target right) = is_simple_right types right
-    is_simple_stmt (assigns_record target items) = false
+    is_simple_stmt (assigns_record target items) =
+        not (is_some (finalization_of types target.record_type)) && list_all (is_bare_item types) items
     is_simple_stmt (frees access path) = may_free && has_bare_objects types access
     is_simple_stmt (gets target) = true
     is_simple_stmt (writes e) = true

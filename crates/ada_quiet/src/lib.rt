@@ -21,7 +21,7 @@
 //! plain or, where it may be, frugal, Finalize is to be quiet or, where it may be, frugal, and so is Adjust; but of a type with a
 //! component of an access type, declared in it directly, Adjust is to be simple, where it may track that component: a quiet one would leave
 //! it as it is. A simple body allocates objects without controlled parts, and frees some where it may, moves and follows, calls nothing,
-//! copies no record but into what it allocates, and declares variables alone, none of them a record.
+//! assigns no record with controlled parts, and declares variables alone, none of them a record.
 //!
 //! An Initialize and a Finalize may be frugal in a program in which operations stand apart, as below (`may_be_frugal`), whatever components
 //! the objects of its collections have, and in whatever order these are created. While a master is left, its collections go one after the
@@ -54,7 +54,7 @@
 //! storage in another program, gives values to the components of objects with controlled parts that it allocates, declares other records
 //! with an initial value where an Adjust tracks, or assigns other records with such parts, an Adjust that tracks and frees objects with
 //! controlled parts, one that touches storage beside one that tracks, operations that call procedures that are not frugal, and an Adjust
-//! that tracks and calls, assigns to records as a whole, or frees objects where a record has two controlled parts.
+//! that tracks and calls, declares record objects, assigns records with controlled parts, or frees objects where a record has two of these.
 #![tactic(auto)]
 
 mod apart;

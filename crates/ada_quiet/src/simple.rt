@@ -1,6 +1,6 @@
 //! Declarations, statements and bodies, where they are simple: they allocate objects without controlled parts (7.6, 4.8), and free some
-//! where they may (13.11.2), move and follow, call nothing (6.4), copy no record (5.2) but into what they allocate, and declare no more
-//! than variables.
+//! where they may (13.11.2), move and follow, call nothing (6.4), assign no record with controlled parts (5.2), and declare no more than
+//! variables.
 
 ghost use Rattle.std.specs.Prelude.{◌≡◌, ◌&&◌, drop, map};
 ghost use Rattle.std.specs.List.{list_all};
@@ -9,8 +9,10 @@ ghost use Rattle.ada_program.specs.Kept.{types_in, variables_in};
 ghost use Rattle.ada_program.specs.ProgramForm.{body_form};
 ghost use Rattle.ada_quiet.specs.Simple as rules;
 
+use crate::apart::are_bare_items;
 use crate::bare::has_bare_objects;
 use ada_program::Stmt;
+use ada_program::parts::finalization_of;
 use ada_program::program::{
     Branch, Declaration, Handler, Procedure, Right, TypeDefinition, Variable, VariableKind,
 };
@@ -61,8 +63,8 @@ fn are_simple_declarations(types: &[TypeDefinition], declarations: &[Declaration
     true
 }
 
-/// Whether a statement assigns to no record as a whole (5.2), allocates and frees no object with controlled parts (4.8, 13.11.2), and calls
-/// nothing (6.4), where objects may be freed; where they may not, whether it also frees none.
+/// Whether a statement assigns to no record with controlled parts as a whole (5.2, 7.6), allocates and frees no object with such parts
+/// (4.8, 13.11.2), and calls nothing (6.4), where objects may be freed; where they may not, whether it also frees none.
 #[cycle(statements)]
 #[tactic(auto, using(std::proofs::lemmas::Grind::common_steps, ada_program::specs::Form::statement_rules))]
 fn is_simple_stmt(types: &[TypeDefinition], may_free: bool, statement: &Stmt) -> bool
@@ -76,7 +78,10 @@ fn is_simple_stmt(types: &[TypeDefinition], may_free: bool, statement: &Stmt) ->
         | Stmt::Exit { .. }
         | Stmt::Return(_)
         | Stmt::Raise(_) => true,
-        Stmt::AssignRecord { .. } | Stmt::Call { .. } => false,
+        Stmt::Call { .. } => false,
+        Stmt::AssignRecord { target, items } => {
+            finalization_of(types, target.record.0).is_none() && are_bare_items(types, items)
+        }
         Stmt::Assign { target: _, value } => is_simple_right(types, value),
         Stmt::Free { access, path: _ } => may_free && has_bare_objects(types, *access),
         Stmt::If {
@@ -181,8 +186,8 @@ fn others_hold_one_value(variables: &[Variable]) -> bool
 }
 
 /// Whether a body is simple: it allocates objects without controlled parts, and frees some where objects may be freed, moves and
-/// follows; it calls nothing, copies no record but into what it allocates, and declares variables alone, none of them a record. An
-/// exception may come out of it. Linear in the body.
+/// follows; it calls nothing, assigns no record with controlled parts, and declares variables alone, none of them a record. An exception
+/// may come out of it. Linear in the body.
 pub(crate) fn is_simple_body(
     types: &[TypeDefinition],
     may_free: bool,

@@ -50,7 +50,7 @@ use Rattle.ada_sound.proofs.FrugalControl.{Frugal, Frugally, frugal_ends, is_ret
 use Rattle.ada_sound.proofs.HousesIts.{first_houses_its}
 use Rattle.ada_sound.proofs.Invariant.{Control, GoesOn, Ready, ReadyIn, Rooms}
 use Rattle.ada_sound.proofs.AdjustingSeen.{stands_for}
-use Rattle.ada_sound.proofs.CopiedBare.{EachIsAccess, copies_none, next_bare, tracked_access}
+use Rattle.ada_sound.proofs.CopiedBare.{EachIsAccess, copies_none, next_bare, tracked_access, StoresBare, next_assigns_bare, next_stored}
 use Rattle.ada_sound.proofs.Sparing.{Sparing, stays_sparing}
 use Rattle.ada_sound.proofs.SparingLooks.{SoughtIsOther}
 use Rattle.ada_sound.proofs.Stored.{Stored}
@@ -139,7 +139,7 @@ module _
       (rw f.object_so found) exists
       (subst (λ (tracks : Tracks). AreApart tracks.components) f.tracks_so (tracks_apart p.types (in_a_row p well may) f.number f.b))
 
-  -- The next step copies none of the components of the object that are of access types.
+  -- The next step copies none of the components of the object that are of access types, and stores none with a record.
   pub copies_no_access :
       (these : (component : ℕ) → Bool) → EachIsAccess p.types x.cell.access these → Sparing program f.w.object f.access f.behind f.lower (record s { heap = heap })
       → CopiesNone program.types.items f.w.object these (record s { heap = heap })
@@ -148,8 +148,11 @@ module _
       copies_none program.types.items own (sym same) (record s { heap = heap }) f.w.object x (rw f.object_so found) these
       (subst (λ (types : List TypeForm). EachIsAccess types x.cell.access these) (sym same) each) inside
       (subst (λ (types : List TypeForm). SoughtIsOther types f.w.object s.mode s.control (operands s)) (sym same) sparing.sought)
+      (next_assigns_bare program s f)
+      (subst (λ (types : List TypeForm). StoresBare types f.w.object x.cell.access s.mode s.control) (sym same)
+      (subst (λ (access : ℕ). StoresBare p.types f.w.object access s.mode s.control) (sym of_access) (next_stored program s f)))
 
-  -- Nor does it copy a component that is tracked.
+  -- Nor does it copy, or store so, a component that is tracked.
   pub copies_no_tracked :
       Sparing program f.w.object f.access f.behind f.lower (record s { heap = heap })
       → CopiesNone program.types.items f.w.object (is_tracked_at f.w) (record s { heap = heap })

@@ -27,6 +27,7 @@ use Rattle.ada_scopes.proofs.Homes.{ItemsFit}
 use Rattle.ada_scopes.specs.Scopes.{CollectTwoTypes}
 use Rattle.ada_tracked.proofs.Law.{runs_as_variables}
 use Rattle.ada_tracked.proofs.Staying.{stay_simple}
+use Rattle.ada_tracked.proofs.Wholes.{assigns_bare}
 use Rattle.ada_reaching.specs.Law.{AllGoOn}
 use Rattle.ada_tracked.specs.Copying.{CopiesNone, is_tracked_at}
 use Rattle.ada_tracked.specs.Frames.{View, blanked}
@@ -262,7 +263,7 @@ module _
   shown = runs_as_variables tds bodies f.w s f.t f.seen watched spares.0 copies (next_simple f.w s.control s.masters f.simple inner (houses_none program s f))
 
   simple_on : AllStaySimple f.w.tracks.first (next tds bodies s)
-  simple_on = stay_simple tds bodies f.w.tracks.first s (within f.w.tracks.first s.control f.simple inner)
+  simple_on = stay_simple tds bodies f.w.tracks.first s (within f.w.tracks.first s.control f.simple inner) (assigns_bare tds f.w.object (is_tracked_at f.w) s copies)
 
   -- The object is there.
   followed : IsFollowed (Names f.w.object) s.heap

@@ -13,7 +13,7 @@ use Rattle.ada_program.specs.declared.program.VariableKind.{VariableKind}
 use Rattle.ada_program.specs.declared.program.VariableKind.TheVariants as variable
 use Rattle.ada_program.specs.Form.{PathForm, RecordPathForm, ExpressionForm, integer, boolean, reads, is_null, applied_to, chained, LinksForm, no_more_links, a_link, ItemForm, null_item, item_of_path, item_of_value, item_of_record, RightForm, nothing, value_of, allocates, allocates_default, computes, DeclarationForm, creates_pool, collects, declares, declares_record, StmtForm, skips, assigns, assigns_record, frees, gets, writes, writes_text, chooses, repeats, counts, exits, calls, returns, raises, encloses, StmtsForm, no_stmts, a_stmt, BranchesForm, otherwise, a_branch, HandlersForm, no_handlers, a_handler}
 use Rattle.ada_program.specs.ProgramForm.{TypeForm, VariableForm, BodyForm, ProgramForm, seen_by}
-use Rattle.ada_program.specs.WellFormed.{IsWellFormed, is_record_path, variable_kind, root_kind, selectors_kind, path_kind, scalar_of, value_access, kind_among, is_this, binary_type, type_of, chain_type, has_type, condition_fits, first_fits, item_fits, item_width, items_fit, is_filled, access_fits, scalar_fits, right_fits, reached_components, initial_fits, declarations_fit, Profile, callable_in, statement_fits, stmts_fit, branches_fit, handlers_fit}
+use Rattle.ada_program.specs.WellFormed.{IsWellFormed, is_record_path, variable_kind, root_kind, selectors_kind, path_kind, scalar_of, value_access, kind_among, is_this, binary_type, type_of, chain_type, has_type, condition_fits, first_fits, item_fits, item_width, items_fit, is_filled, access_fits, scalar_fits, right_fits, reached_components, initial_fits, declarations_fit, Profile, callable_in, statement_fits, stmts_fit, branches_fit, handlers_fit, record_components, record_fits}
 use Rattle.ada_flow.specs.Tracking.{Tracks}
 use Rattle.ada_judged.specs.Fitting.{TracksComponents}
 use Rattle.ada_tracked.specs.Simple.{IsFrom}
@@ -184,7 +184,10 @@ module _ (types : List TypeForm) (tracks : Tracks) (own : List VariableForm) (tr
       statement_confined inside (assigns target right) fit simple =
           let fits = (apart _ _ fit).0 in
           (path_confined target (right_value types own (path_kind types own target) right fits), right_confined (path_kind types own target) right fits)
-      statement_confined inside (assigns_record target items) fit simple = absurd (cc simple)
+      statement_confined inside (assigns_record target items) fit simple =
+          let two = apart (is_record_path types own target) (record_fits types own target.record_type items) fit in
+          let filled = (apart _ _ (apart _ _ two.1).0).0 in
+          (record_confined target two.0, filled_confined (record_components types target.record_type) items filled)
       statement_confined inside (frees access path) fit simple = absurd (cc simple)
       statement_confined inside (gets target) fit simple =
           let number = typed Integer (scalar_of (path_kind types own target)) fit in

@@ -24,7 +24,7 @@ use Rattle.ada_typed.proofs.Parts.{shown_number}
 use Rattle.ada_sound.proofs.Raising.{or_right}
 use Rattle.ada_sound.proofs.Followings.{kept_apart}
 use Rattle.ada_sound.proofs.CopiedOwners.{NameThere, names_in_front}
-use Rattle.ada_sound.proofs.Invariant.{Known, Control, Rooms, InitialTo, NoneBroken, back_onto, named_of, ItemsKeep, FilledBy, Giving, Filling, FillsTo, OwnNothing}
+use Rattle.ada_sound.proofs.Invariant.{Known, Control, Rooms, InitialTo, NoneBroken, back_onto, named_of, ItemsKeep, FilledBy, Given, Filling, FillsTo, OwnNothing}
 
 -- What a component holds at first, as an item.
 abbrev pub default_item : ComponentKind → ItemForm
@@ -55,12 +55,13 @@ module _ (known : Known) (heap : List Object) (places : List Value) where
   }
 
   -- So it is where the items are those of a record.
-  pub give_next : (i : ItemForm) (items : List ItemForm) (k : Control) (rooms : Rooms) (holds : Holds) → Giving known (i ∷ items) k rooms holds → Giving known items k rooms holds
+  pub give_next : {plain : Bool} (i : ItemForm) (items : List ItemForm) (k : Control) (rooms : Rooms) (holds : Holds) → Given known plain (i ∷ items) k rooms holds → Given known plain items k rooms holds
   give_next i items k rooms holds g = record {
     spot = g.spot;
     earlier = named_by_item i ++ g.earlier;
     keeps = g.keeps.1;
     raises = λ may. g.raises (or_right (item_raises i) (items_raise items) may);
+    bare = λ is. (g.bare is).1;
   }
 
 -- What items say is as much where some behind others are replaced.

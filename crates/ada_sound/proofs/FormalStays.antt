@@ -27,7 +27,7 @@ use Rattle.ada_meaning.specs.Frame.{Frame, is_master, Landing, passes_on, goes_b
 use Rattle.ada_meaning.specs.Frame as frame
 use Rattle.ada_meaning.specs.State.{Activation, Destination, Item, Master, Owned, declared, collection, record_object, storage_pool, home_of, pool_freed_to}
 use Rattle.ada_meaning.specs.Heap.{Cell, Found, on_null, on_gone, on_other, finds}
-use Rattle.ada_meaning.specs.Step.{halts, moves, tells, asks, picks, same_pool, freeing, at, older, places_of, with_places, with_operands, places, operands, set_operands, put, newest, popped, held, reading, component_next, follow_next, path_next, selected, before_last, last_of, named_next, holder_next, expression_next, null_test_next, is_decided, link_next, links_next, outcome_next, items_next, record_holder_next, place_in, record_in, copied_next, copies_next, answered, new_next, right_next, freeing_next, free_next, end_next, told_back, given_back, back_next, assign_next, target_next, stored_next, store_next, frees_next, freed_next, free_component_next, free_in_next, branches_next, decided_next, turn_next, repeats_next, turned_next, count_turn_next, ranges_next, gets_next, received_next, receive_next, exit_next, exited_next, stmt_next, stmts_next, line_next, declarations_next, taken_out, members_next, item_leave_next, master_leave_next, leave_next, frame_next, undo_next, broken_next, broken_off, landed, pass_next, unwound}
+use Rattle.ada_meaning.specs.Step.{halts, moves, tells, asks, picks, same_pool, freeing, at, older, places_of, with_places, with_operands, places, operands, set_operands, put, newest, popped, held, reading, component_next, follow_next, path_next, selected, before_last, last_of, named_next, holder_next, expression_next, null_test_next, is_decided, link_next, links_next, outcome_next, items_next, record_holder_next, place_in, record_in, copied_next, copies_next, answered, new_next, right_next, freeing_next, free_next, end_next, told_back, given_back, back_next, assign_next, target_next, stored_next, store_next, frees_next, freed_next, free_component_next, free_in_next, branches_next, decided_next, turn_next, repeats_next, turned_next, count_turn_next, ranges_next, gets_next, received_next, receive_next, exit_next, exited_next, stmt_next, stmts_next, line_next, declarations_next, taken_out, members_next, item_leave_next, master_leave_next, leave_next, frame_next, undo_next, broken_next, broken_off, landed, pass_next, unwound, has_parts, copy_next, record_assign_next, record_target_next, record_stored_next, store_record_next, newest_ones, without_newest}
 use Rattle.ada_meaning.specs.Named.{State, Next, named, whole, inside, look, lent, standing, returned, on_object, reads_integer, reads_boolean, reads_null, unary_given, binary_given, next}
 use Rattle.ada_tracked.specs.Simple.{IsVariable, IsFrom, StatementIsSimple, StatementsAreSimple, FrameIsSimple}
 use Rattle.ada_tracked.specs.Staying.{IsWithinBody}
@@ -344,11 +344,44 @@ module _ (types : List TypeDefinition) (bodies : List BodyForm) (first : ℕ) (w
   line_keeps None s h = tt
   line_keeps (Some i) s h = h
 
+  -- Records are assigned as wholes.
+  copy_keeps : (target : RecordPathForm) (items : List ItemForm) (s : State) → Has w s → Keeps w (copy_next named target items s)
+  copy_keeps target [] s h = tt
+  copy_keeps target (null_item ∷ is) s h = tt
+  copy_keeps target (item_of_path path ∷ is) s h = tt
+  copy_keeps target (item_of_value e ∷ is) s h = tt
+  copy_keeps target (item_of_record source ∷ []) s h = h
+  copy_keeps target (item_of_record source ∷ i ∷ is) s h = tt
+
+  record_assign_keeps : (parts : Bool) (target : RecordPathForm) (items : List ItemForm) (s : State) → Has w s → Keeps w (record_assign_next named parts target items s)
+  record_assign_keeps true target items s h = copy_keeps target items s h
+  record_assign_keeps false target items s h = record_keeps target (λ place. frame.TargetsRecord place.component target.record_type items) s h
+
+  record_target_keeps :
+      (o : Value) (c count : ℕ) (items : List ItemForm) (found : Found (Cell Value)) (s : State) → Has w s
+      → Keeps w (record_target_next named o c count items found s)
+  record_target_keeps o c count items on_null s h = operands_keep _ s h
+  record_target_keeps o c count items on_gone s h = tt
+  record_target_keeps o c count items on_other s h = tt
+  record_target_keeps o c count items (finds cell) s h = h
+
+  record_stored_keeps :
+      (o : Value) (c : ℕ) (us : List Value) (found : Option (List Value)) (s : State) → Has w s → Keeps w (record_stored_next named o c us found s)
+  record_stored_keeps o c us None s h = tt
+  record_stored_keeps o c us (Some before) s h = h
+
+  store_record_keeps : (o : Value) (c count : ℕ) (found : Found (Cell Value)) (s : State) → Has w s → Keeps w (store_record_next named o c count found s)
+  store_record_keeps o c count on_null s h = tt
+  store_record_keeps o c count on_gone s h = tt
+  store_record_keeps o c count on_other s h = tt
+  store_record_keeps o c count (finds cell) s h =
+      record_stored_keeps o c (newest_ones named count s) (record_in cell.values c count) (without_newest named count s) (operands_keep _ s h)
+
   -- Statements and declarations.
   stmt_keeps : (f : StmtForm) (s : State) → StatementIsSimple first f → Has w s → Keeps w (stmt_next named types bodies f s)
   stmt_keeps skips s simple h = h
   stmt_keeps (assigns target right) s simple h = assign_keeps target.selectors target.root right s h
-  stmt_keeps (assigns_record target items) s simple h = absurd simple
+  stmt_keeps (assigns_record target items) s simple h = record_assign_keeps (has_parts types target.record_type) target items s h
   stmt_keeps (frees access path) s simple h = frees_keep path.selectors access path.root s h
   stmt_keeps (gets target) s simple h = gets_keeps target.selectors target.root s.input s simple h
   stmt_keeps (writes e) s simple h = h
@@ -438,8 +471,9 @@ module _ (types : List TypeDefinition) (bodies : List BodyForm) (first : ℕ) (w
   frame_keeps (frame.Stores x) s simple h = put_keeps x (newest named s) (popped s) simple (less s h)
   frame_keeps (frame.Targets c right) s simple h = target_keeps (newest named s) c right (look s.heap (newest named s)) (popped s) (less s h)
   frame_keeps (frame.StoresIn o c) s simple h = store_keeps o c (newest named s) (look s.heap o) (popped s) (less s h)
-  frame_keeps (frame.TargetsRecord c record_type items) s simple h = absurd simple
-  frame_keeps (frame.StoresRecord o c count) s simple h = absurd simple
+  frame_keeps (frame.TargetsRecord c record_type items) s simple h =
+      record_target_keeps (newest named s) c (width_of types record_type) items (look s.heap (newest named s)) (popped s) (less s h)
+  frame_keeps (frame.StoresRecord o c count) s simple h = store_record_keeps o c count (look s.heap o) s h
   frame_keeps (frame.Assigns record_type) s simple h = absurd simple
   frame_keeps (frame.Receives c) s simple h = receive_keeps (newest named s) c (look s.heap (newest named s)) (popped s) (less s h)
   frame_keeps (frame.FreesIn access c) s simple h = free_in_keeps access (newest named s) c (look s.heap (newest named s)) (popped s) (less s h)

@@ -723,12 +723,20 @@ pub record Filling (known : Known) (heap : List Object) (places : List Value) (a
   pub leads : Allocating known heap access (back_onto done todo) k rooms holds
   pub counted : count ≡ length leads.components
 
--- Items that a record gets break no rule, and it is known what they raise.
-pub record Giving (known : Known) (todo : List ItemForm) (k : Control) (rooms : Rooms) (holds : Holds) : Type 0 where
+-- Items that a record gets break no rule, and it is known what they raise; and none that is a record owns anything, if the record is plain.
+pub record Given (known : Known) (plain : Bool) (todo : List ItemForm) (k : Control) (rooms : Rooms) (holds : Holds) : Type 0 where
   pub spot : Spot
   pub earlier : List PathForm
   pub keeps : ItemsKeep known.program.types spot None holds earlier todo
   pub raises : MayRaise known (items_raise todo) ConstraintError k rooms holds
+  pub bare : plain ≡ true → OwnNothing known.program.types todo
+
+-- Those of any record, and of one whose components are Integers and Booleans.
+abbrev pub Giving : Known → List ItemForm → Control → Rooms → Holds → Type 0
+Giving known todo k rooms holds = Given known false todo k rooms holds
+
+abbrev pub GivingPlain : Known → List ItemForm → Control → Rooms → Holds → Type 0
+GivingPlain known todo k rooms holds = Given known true todo k rooms holds
 
 -- Of what the Adjusts may free that are called for a copy of a record of this type, no suspended activation and no variable has an alias, and the running body
 -- may free it (7.6).
@@ -842,7 +850,7 @@ abbrev pub FillsTo : Known → List Object → List Value → List ItemForm → 
 FillsTo known heap places todo [] operands rooms holds = ⊥
 FillsTo known heap places todo (Creates access count ∷ k) operands rooms holds = Filling known heap places access count todo k operands rooms holds
 FillsTo known heap places todo (StoresRecord o first count ∷ k) operands rooms holds =
-    Giving known todo k rooms holds × PlainBehind known heap o first count k rooms holds
+    GivingPlain known todo k rooms holds × PlainBehind known heap o first count k rooms holds
 FillsTo known heap places todo (DeclaresRecord x t ∷ k) operands rooms holds =
     Giving known todo k rooms holds × InitialTo known heap todo operands t × Recording known x t k rooms holds
 FillsTo known heap places todo (f ∷ k) operands rooms holds = ⊥

@@ -83,7 +83,7 @@ module _ (tracks : Tracks) where
     statement_both : (f : StmtForm) → StatementIsOrderly tracks f → StatementIsSimple tracks.first f × StatementIsOfRecord tracks f
     statement_both skips h = (tt, tt)
     statement_both (assigns target right) h = let value = right_both right h.1 in ((h.0.0, value.0), (h.0.1, value.1))
-    statement_both (assigns_record target items) h = absurd h
+    statement_both (assigns_record target items) h = let value = items_both items h.1 in ((h.0.0, value.0), (h.0.1, value.1))
     statement_both (frees access path) h = h
     statement_both (gets target) h = (h.0.0, (h.0.1, h.1))
     statement_both (writes e) h = expression_both e h

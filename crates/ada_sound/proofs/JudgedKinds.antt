@@ -20,6 +20,7 @@ use Rattle.ada_tracked.specs.Forms.{seen_expression, seen_right, seen_declaratio
 use Rattle.ada_tracked.specs.Simple.{DeclarationIsSimple, DeclarationsAreSimple, StatementIsSimple, StatementsAreSimple, BranchesAreSimple, HandlersAreSimple, ExpressionIsSimple}
 use Rattle.ada_judged.specs.Fitting.{AreOfAccess, TracksComponents, DeclarationIsOfRecord, DeclarationsAreOfRecord, StatementIsOfRecord, StatementsAreOfRecord, BranchesAreOfRecord, HandlersAreOfRecord, ExpressionIsOfRecord}
 use Rattle.ada_judged.proofs.FittingPaths.{front_kind, front_borrows, path_fits}
+use Rattle.ada_judged.proofs.FittingStatements.{same_record}
 use Rattle.ada_judged.proofs.FittingForms.{below, expression_fits, conditions_fit, right_is_fit}
 use Rattle.ada_typed.proofs.Operators.{and_left, and_right}
 use Rattle.ada_typed.proofs.OfKinds.{initial_is_of_kind, declarations_are_of_kind, statement_is_of_kind, statements_are_of_kind, branches_are_of_kind, handlers_are_of_kind}
@@ -107,7 +108,8 @@ module _ (types : List TypeForm) (tracks : Tracks) (own : List VariableForm) (tr
           both_same
           (ap (λ (k : Option VariableKind). right_fits types (judged types tracks own) k (seen_right tracks right)) path.kind ∙ same.fits (path_kind types own target))
           (ap (λ (b : Bool). lends_to (judged types tracks own) b (seen_right tracks right)) path.borrows ∙ same.lends (names_borrower own target))
-      statement_same inside (assigns_record target items) simple of_record = absurd simple
+      statement_same inside (assigns_record target items) simple of_record =
+          same_record types tracks own tracking target items simple.0 of_record.0 simple.1 of_record.1
       statement_same inside (frees access path) simple of_record =
           let same = path_fits types tracks own tracking path simple of_record in
           both_same (ap (is_freed_by types access) same.access) (ap not same.borrows)

@@ -379,6 +379,7 @@ module _ (known : Known) (a : Activation Value) (rest : List (Activation Value))
           earlier = [];
           keeps = items_keep program.types spot None holds [] items kept.1;
           raises = λ raises. (let either = or_left (items_raise items) false raises in n.1 either ConstraintError either);
+          bare = λ plain. absurd (cc plain);
         },
         first_well (gathered_first_well program.types copies spot holds t items (λ r f named found. initial_copies program.types program.variables t items r f named found fits) (λ r of named numbered. initial_whole program.types program.variables t items r of named numbered fits) (copied_plain owning spot kept.0) kept.1),
         (is, e.0.0, (n.0.0, n.0.1, ((e.0.1, n.0.2.0), n.0.2.1))),

@@ -14,6 +14,7 @@ use Rattle.ada_program.specs.Controlled.{operations_of, procedure_number}
 use Rattle.ada_program.specs.Form.{RightForm, nothing, value_of, allocates, allocates_default, computes, DeclarationForm, creates_pool, collects, declares, declares_record, StmtForm, skips, assigns, assigns_record, frees, gets, writes, writes_text, chooses, repeats, counts, exits, calls, returns, raises, encloses, StmtsForm, no_stmts, a_stmt, BranchesForm, otherwise, a_branch, HandlersForm, no_handlers, a_handler}
 use Rattle.ada_program.specs.ProgramForm.{TypeForm, record_of, access_to, object_of, VariableForm, BodyForm, ProgramForm, program_form, seen_by}
 use Rattle.ada_program.specs.WellFormed.{IsWellFormed, Profile, callable_in, choice_fits, condition_fits, declarations_fit, designated_in, designated_type, finalization_of, has_statement, has_type, is_access, is_freed_by, is_type, names_borrower, path_access, path_kind, same_record, scalar_of, statement_fits, stmts_fit, branches_fit, handlers_fit, value_access, variable_kind}
+use Rattle.ada_quiet.specs.Apart.{is_bare_item}
 use Rattle.ada_quiet.specs.Bare.{has_bare_objects, is_bare_access}
 use Rattle.ada_quiet.specs.Simple.{holds_one_value, is_simple_right, are_simple_declarations, is_simple_stmt, are_simple, are_simple_branches, are_simple_handlers, is_simple_body}
 use Rattle.ada_deeds.specs.declared.deed.Callee.TheVariants as callee
@@ -28,7 +29,7 @@ use Rattle.ada_deeds.specs.Within.{does_by}
 use Rattle.ada_deeds.proofs.Within.{counts_are_enough}
 use Rattle.ada_reaching.specs.Apart.{Apart}
 use Rattle.ada_reaching.specs.Deeds.{DoesFollow}
-use Rattle.ada_reaching.specs.Forms.{may_end, may_follow, path_shuns, expression_shuns, condition_shuns, item_shuns, right_shuns, declarations_shun, statement_shuns, statements_shun, branches_shun, handlers_shun, body_shuns}
+use Rattle.ada_reaching.specs.Forms.{may_end, may_follow, path_shuns, expression_shuns, condition_shuns, item_shuns, right_shuns, declarations_shun, statement_shuns, statements_shun, branches_shun, handlers_shun, body_shuns, record_path_shuns, may_assign, may_replace}
 use Rattle.ada_reaching.proofs.Deeds.{unused_body}
 use Rattle.ada_typed.proofs.Bodies.{SeenFits, seen_as, seen_fits}
 use Rattle.ada_typed.proofs.Lying.{IsOperable}
@@ -127,7 +128,17 @@ module _ (program : Program) (variables : List VariableForm) (texts exceptions :
     statement_shaped inside (assigns target right) fits is =
         and_from (path_shuns types (λ t. false) apart variables target) (right_shuns types (λ t. false) apart variables right)
         (path_shaped types apart variables target) (right_shaped right is)
-    statement_shaped inside (assigns_record target items) fits is = absurd (cc is)
+    statement_shaped inside (assigns_record target items) fits is =
+        let parted = is_some (finalization_of types target.record_type) in
+        let bare = (and_parts (not parted) (list_all (is_bare_item types) items) is).0 in
+        let test = item_shuns types (λ t. false) apart variables in
+        let kind = path_kind types variables target.object in
+        let way = record_path_shuns types (λ t. false) apart variables target in
+        and_from (way && list_all test items) (may_assign types apart target.record_type)
+        (and_from way (list_all test items)
+        (and_from (path_shuns types (λ t. false) apart variables target.object) (may_follow (λ t. false) kind) (path_shaped types apart variables target.object) (all_may kind))
+        (all_so test (item_shaped types apart variables) items))
+        (or_left (not parted) (may_replace apart target.record_type) bare)
     statement_shaped inside (frees access path) fits is =
         let kind = path_kind types variables path in
         let freed = (and_parts (is_freed_by types access (path_access types variables path)) (not (names_borrower variables path)) fits).0 in

@@ -2,18 +2,26 @@
 
 use Rattle.std.proofs.Common.{◌≡◌, ℕ, Bool, true, false, ◌&&◌, List, [], ◌∷◌, drop, refl}
 use Rattle.std.specs.List.{list_all}
-use Rattle.std.proofs.lemmas.Bool.{or_right}
+use Rattle.std.specs.Prelude.{not, is_some, if◌then◌else◌}
+use Rattle.std.proofs.lemmas.Bool.{or_left, or_right}
 use Rattle.ada_program.specs.Form.{RightForm, nothing, value_of, allocates, allocates_default, computes, StmtForm, skips, assigns, assigns_record, frees, gets, writes, writes_text, chooses, repeats, counts, exits, calls, returns, raises, encloses, StmtsForm, no_stmts, a_stmt, BranchesForm, otherwise, a_branch, HandlersForm, no_handlers, a_handler, DeclarationForm, creates_pool, collects, declares, declares_record}
 use Rattle.ada_program.specs.Nested.{Callees, body_nests}
 use Rattle.ada_program.specs.ProgramForm.{TypeForm, BodyForm}
+use Rattle.ada_program.specs.WellFormed.{finalization_of}
+use Rattle.ada_quiet.specs.Apart.{is_bare_item}
 use Rattle.ada_quiet.specs.Bare.{has_bare_objects}
-use Rattle.ada_quiet.specs.Frugal.{Thrift, allocates_frugally, are_frugal_declarations, is_frugal_stmt, are_frugal, are_frugal_branches, are_frugal_handlers, is_frugal_body}
+use Rattle.ada_quiet.specs.Frugal.{Thrift, allocates_frugally, assigns_at_hand, are_frugal_declarations, is_frugal_stmt, are_frugal, are_frugal_branches, are_frugal_handlers, is_frugal_body}
 use Rattle.ada_quiet.specs.Simple.{is_simple_right, are_simple_declarations, is_simple_stmt, are_simple, are_simple_branches, are_simple_handlers, is_simple_body, holds_one_value}
 use Rattle.ada_typed.proofs.OfKinds.{and_both}
 use Rattle.ada_scopes.proofs.Lacked.{KindsOpen}
 use Rattle.ada_sound.proofs.FrugalBodies.{HasAll, calling_none, lone_nests}
-use Rattle.ada_sound.proofs.Allowance.{Allowance, allocates_thriftily, are_thrifty_declarations, is_thrifty_stmt, are_thrifty, are_thrifty_branches, are_thrifty_handlers, is_thrifty_body}
+use Rattle.ada_sound.proofs.Allowance.{Allowance, allocates_thriftily, may_assign, are_thrifty_declarations, is_thrifty_stmt, are_thrifty, are_thrifty_branches, are_thrifty_handlers, is_thrifty_body}
 use Rattle.ada_sound.proofs.OperationStarts.{apart}
+
+-- What is assigned has no controlled parts.
+bare_assigned : (parted bare other : Bool) → (not parted && bare) ≡ true → (if parted then other else bare) ≡ true
+bare_assigned true bare other is = absurd (cc is)
+bare_assigned false bare other is = is
 
 module _ (frugal : Thrift) where
   -- What it allocates is bare (4.8).
@@ -38,7 +46,8 @@ module _ (frugal : Thrift) where
     frugal_stmt : (f : StmtForm) → is_simple_stmt frugal.types true f ≡ true → is_frugal_stmt frugal f ≡ true
     frugal_stmt skips is = refl
     frugal_stmt (assigns target right) is = frugal_right right is
-    frugal_stmt (assigns_record target items) is = absurd (cc is)
+    frugal_stmt (assigns_record target items) is =
+        bare_assigned (is_some (finalization_of frugal.types target.record_type)) (list_all (is_bare_item frugal.types) items) (assigns_at_hand frugal target) is
     frugal_stmt (frees access path) is = refl
     frugal_stmt (gets target) is = refl
     frugal_stmt (writes e) is = refl
@@ -89,7 +98,9 @@ module _ (allowance : Allowance) where
     thrifty_stmt : (f : StmtForm) → is_simple_stmt allowance.types true f ≡ true → is_thrifty_stmt allowance false f ≡ true
     thrifty_stmt skips is = refl
     thrifty_stmt (assigns target right) is = thrifty_right right is
-    thrifty_stmt (assigns_record target items) is = absurd (cc is)
+    thrifty_stmt (assigns_record target items) is =
+        let parted = is_some (finalization_of allowance.types target.record_type) in
+        or_left (not parted) (may_assign allowance false target.record_type) (apart (not parted) (list_all (is_bare_item allowance.types) items) is).0
     thrifty_stmt (frees access path) is = or_right allowance.treats_parts (has_bare_objects allowance.types access) is
     thrifty_stmt (gets target) is = refl
     thrifty_stmt (writes e) is = refl

@@ -5,7 +5,7 @@ use Rattle.std.specs.List.{list_all}
 use Rattle.std.proofs.lemmas.Bool.{and_parts}
 use Rattle.ada_program.specs.declared.program.VariableKind.{VariableKind}
 use Rattle.ada_program.specs.declared.program.VariableKind.TheVariants as variable
-use Rattle.ada_program.specs.Form.{ExpressionForm, reads, is_null, ItemForm, item_of_path, item_of_record, RightForm, value_of, assigns, frees, gets, StmtsForm, no_stmts, a_stmt}
+use Rattle.ada_program.specs.Form.{ExpressionForm, reads, is_null, ItemForm, item_of_path, item_of_record, RightForm, value_of, assigns, frees, gets, StmtsForm, no_stmts, a_stmt, assigns_record}
 use Rattle.ada_program.specs.ProgramForm.{TypeForm, VariableForm, BodyForm}
 use Rattle.ada_program.specs.WellFormed.{path_kind, selected_kind, value_access}
 use Rattle.ada_flow.specs.Flow.{is_owning_record}
@@ -23,7 +23,7 @@ use Rattle.ada_tracked.specs.Looking.{HoldsElsewhere, LeadsElsewhere, Expression
 use Rattle.ada_tracked.specs.Seen.{IsOther, awaits_holder}
 use Rattle.ada_tracked.specs.Simple.{FrameIsSimple}
 use Rattle.ada_reaching.specs.Apart.{Apart}
-use Rattle.ada_reaching.specs.Forms.{may_follow, path_shuns, expression_shuns, item_shuns, right_shuns, statement_shuns, statements_shun}
+use Rattle.ada_reaching.specs.Forms.{may_follow, path_shuns, expression_shuns, item_shuns, right_shuns, statement_shuns, statements_shun, record_path_shuns}
 use Rattle.ada_reaching.specs.Reaching.{FrameShuns, IsInFront, OperandSeeks, Seeks, seeks_nothing}
 use Rattle.ada_reaching.proofs.Going.{anew_quiet}
 use Rattle.ada_reaching.proofs.Jumps.{FirstIsRooted}
@@ -187,6 +187,12 @@ module _ (types : List TypeForm) (variables : List VariableForm) (s : State) (so
       let two = and_parts (statement_shuns types shuns apart variables (assigns target right)) (statements_shun types shuns apart variables fs) shun in
       let one = and_parts (path_shuns types shuns apart variables target) (right_shuns types shuns apart variables right) two.0 in
       holder_elsewhere types variables s sound plain o x found target.root target.selectors root.0 root.1 one.0
+  statements_elsewhere (a_stmt (assigns_record target items) fs) shun root =
+      let two = and_parts (statement_shuns types shuns apart variables (assigns_record target items)) (statements_shun types shuns apart variables fs) shun in
+      let three = and_parts _ _ two.0 in
+      let one = and_parts (record_path_shuns types shuns apart variables target) (list_all (item_shuns types shuns apart variables) items) three.0 in
+      let own = and_parts (path_shuns types shuns apart variables target.object) (may_follow shuns (path_kind types variables target.object)) one.0 in
+      starts_elsewhere types variables s sound plain o x found target.object.root target.object.selectors root.0 root.1 own.0
   statements_elsewhere (a_stmt (frees access path) fs) shun root =
       let two = and_parts (statement_shuns types shuns apart variables (frees access path)) (statements_shun types shuns apart variables fs) shun in
       let one = and_parts _ _ two.0 in

@@ -35,14 +35,14 @@ use Rattle.ada_meaning.specs.Frame.{Treatment, begins, ends, Frame, is_master, L
 use Rattle.ada_meaning.specs.Frame as frame
 use Rattle.ada_meaning.specs.Heap.{Cell, Found, on_null, on_gone, on_other, finds}
 use Rattle.ada_meaning.specs.State.{Activation, Destination, Item, Master, Owned, declared, collection, record_object, storage_pool, home_of, pool_freed_to}
-use Rattle.ada_meaning.specs.Step.{halts, moves, tells, asks, picks, all_tasks, treating, same_pool, freeing, at, first_or, operands, operands_of, with_operands, places, newest, popped, held, reading, component_next, follow_next, path_next, selected, before_last, last_of, named_next, holder_next, place_in, expression_next, null_test_next, is_decided, link_next, links_next, outcome_next, item_next, items_next, record_in, copied_next, copies_next, answered, new_next, right_next, freeing_next, free_next, end_next, told_back, given_back, back_next, assign_next, target_next, stored_next, store_next, frees_next, freed_next, free_component_next, free_in_next, branches_next, decided_next, turn_next, repeats_next, turned_next, count_turn_next, ranges_next, gets_next, received_next, receive_next, exit_next, exited_next, stmt_next, stmts_next, line_next, declarations_next, taken_out, members_next, item_leave_next, master_leave_next, leave_next, frame_next, undo_next, broken_next, broken_off, landed, pass_next, unwound}
+use Rattle.ada_meaning.specs.Step.{halts, moves, tells, asks, picks, all_tasks, treating, same_pool, freeing, at, first_or, operands, operands_of, with_operands, places, newest, popped, held, reading, component_next, follow_next, path_next, selected, before_last, last_of, named_next, holder_next, place_in, expression_next, null_test_next, is_decided, link_next, links_next, outcome_next, item_next, items_next, record_in, copied_next, copies_next, answered, new_next, right_next, freeing_next, free_next, end_next, told_back, given_back, back_next, assign_next, target_next, stored_next, store_next, frees_next, freed_next, free_component_next, free_in_next, branches_next, decided_next, turn_next, repeats_next, turned_next, count_turn_next, ranges_next, gets_next, received_next, receive_next, exit_next, exited_next, stmt_next, stmts_next, line_next, declarations_next, taken_out, members_next, item_leave_next, master_leave_next, leave_next, frame_next, undo_next, broken_next, broken_off, landed, pass_next, unwound, has_parts, copy_next, record_assign_next, record_target_next, record_stored_next, store_record_next, newest_ones, without_newest}
 use Rattle.ada_meaning.specs.Named.{Object, State, Next, named, object_at, whole, inside, look, lent, standing, returned, on_object, reads_integer, reads_boolean, reads_null, unary_given, binary_given, next}
 use Rattle.ada_quiet.specs.Simple.{holds_one_value}
 use Rattle.ada_flow.specs.Flow.{is_owning_record}
 use Rattle.ada_tracked.specs.Seen.{IsOther}
 use Rattle.ada_tracked.specs.Simple.{DeclarationsAreSimple, StatementIsSimple, StatementsAreSimple, FrameIsSimple}
 use Rattle.ada_reaching.specs.Apart.{Apart}
-use Rattle.ada_reaching.specs.Forms.{may_follow, selectors_shun, path_shuns, expression_shuns, item_shuns, right_shuns, statement_shuns, statements_shun}
+use Rattle.ada_reaching.specs.Forms.{may_follow, selectors_shun, path_shuns, expression_shuns, item_shuns, right_shuns, statement_shuns, statements_shun, record_path_shuns}
 use Rattle.ada_reaching.specs.Law.{AllGoOn}
 use Rattle.ada_reaching.specs.Reaching.{FrameShuns, IsInFront, OperandSeeks, seeks_nothing}
 use Rattle.ada_reaching.proofs.Jumps.{FirstIsRooted}
@@ -255,6 +255,35 @@ module _ (tds : List TypeDefinition) (bodies : List BodyForm) where
   store_calm o c v on_other s calm = tt
   store_calm o c v (finds cell) s calm = stored_calm o c v (slice_get cell.values c) s calm
 
+  record_target_calm :
+      (o : Value) (c count : ℕ) (items : List ItemForm) (found : Found (Cell Value)) (s : State) → Calm s
+      → AllGoOn Calm (record_target_next named o c count items found s)
+  record_target_calm o c count items on_null s calm = calm
+  record_target_calm o c count items on_gone s calm = tt
+  record_target_calm o c count items on_other s calm = tt
+  record_target_calm o c count items (finds cell) s calm = refl
+
+  record_stored_calm :
+      (o : Value) (c : ℕ) (us : List Value) (found : Option (List Value)) (s : State) → Calm s → AllGoOn Calm (record_stored_next named o c us found s)
+  record_stored_calm o c us None s calm = tt
+  record_stored_calm o c us (Some before) s calm = calm
+
+  store_record_calm : (o : Value) (c count : ℕ) (found : Found (Cell Value)) (s : State) → Calm s → AllGoOn Calm (store_record_next named o c count found s)
+  store_record_calm o c count on_null s calm = tt
+  store_record_calm o c count on_gone s calm = tt
+  store_record_calm o c count on_other s calm = tt
+  store_record_calm o c count (finds cell) s calm =
+      record_stored_calm o c (newest_ones named count s) (record_in cell.values c count) (without_newest named count s) calm
+
+  -- A record with controlled parts gets its value from another one.
+  copy_calm : (target : RecordPathForm) (items : List ItemForm) (s : State) → AllGoOn Calm (copy_next named target items s)
+  copy_calm target [] s = tt
+  copy_calm target (null_item ∷ is) s = tt
+  copy_calm target (item_of_path path ∷ is) s = tt
+  copy_calm target (item_of_value e ∷ is) s = tt
+  copy_calm target (item_of_record source ∷ []) s = refl
+  copy_calm target (item_of_record source ∷ i ∷ is) s = tt
+
   received_calm : (o : Value) (c : ℕ) (input : List ℤ) (found : Option Value) (s : State) → Calm s → AllGoOn Calm (received_next named o c input found s)
   received_calm o c input None s calm = tt
   received_calm o c [] (Some before) s calm = calm
@@ -390,8 +419,9 @@ module _ (tds : List TypeDefinition) (bodies : List BodyForm) where
   frame_calm first (frame.Stores x) s simple plain calm = calm
   frame_calm first (frame.Targets c right) s simple plain calm = target_calm (newest named s) c right (look s.heap (newest named s)) (popped s) calm
   frame_calm first (frame.StoresIn o c) s simple plain calm = store_calm o c (newest named s) (look s.heap o) (popped s) calm
-  frame_calm first (frame.TargetsRecord c record_type items) s simple plain calm = absurd simple
-  frame_calm first (frame.StoresRecord o c count) s simple plain calm = absurd simple
+  frame_calm first (frame.TargetsRecord c record_type items) s simple plain calm =
+      record_target_calm (newest named s) c (width_of tds record_type) items (look s.heap (newest named s)) (popped s) calm
+  frame_calm first (frame.StoresRecord o c count) s simple plain calm = store_record_calm o c count (look s.heap o) s calm
   frame_calm first (frame.Assigns record_type) s simple plain calm = absurd simple
   frame_calm first (frame.Receives c) s simple plain calm = receive_calm (newest named s) c (look s.heap (newest named s)) (popped s) calm
   frame_calm first (frame.FreesIn access c) s simple plain calm = free_in_calm access (newest named s) c (look s.heap (newest named s)) (popped s) calm
@@ -608,6 +638,19 @@ module _ (types : List TypeForm) (variables : List VariableForm) (s : State) (so
   gets_sought r [] to [] k calm root shun = quietly types o (gets_next named [] r [] (at k s)) calm
   gets_sought r [] to (i ∷ is) k calm root shun = quietly types o (gets_next named [] r (i ∷ is) (at k s)) calm
 
+  -- A record is found that is assigned to.
+  assigned_sought :
+      (target : RecordPathForm) (items : List ItemForm) (to : VariableKind) (k : Control) (parts : Bool)
+      → IsRooted types variables target.object.root target.object.selectors to
+      → selectors_shun types shuns (variable_kind variables target.object.root) target.object.selectors ≡ true
+      → AllGoOn (Sought types o) (record_assign_next named parts target items (at k s))
+  assigned_sought target items to k true root shun = quietly types o (copy_next named target items (at k s)) (copy_calm [] [] target items (at k s))
+  assigned_sought target items to k false root shun =
+      let v = held named s target.object.root in
+      path_sought types o (selected named v target.object.selectors) (whole v)
+      (at (frame.TargetsRecord (place_in named v target.object.selectors target).component target.record_type items ∷ k) s) runs refl tt
+      (named_finds types variables s sound plain o x found target.object.root target.object.selectors to root shun)
+
   module _ (tds : List TypeDefinition) (bodies : List BodyForm) (first : ℕ) where
     -- A statement begins.
     statement_sought :
@@ -617,7 +660,11 @@ module _ (types : List TypeForm) (variables : List VariableForm) (s : State) (so
     statement_sought (assigns target right) k simple calm shun root =
         let one = and_parts (path_shuns types shuns apart variables target) (right_shuns types shuns apart variables right) shun in
         assign_sought target.root target.selectors root.0 right k root.1 one.0
-    statement_sought (assigns_record target items) k simple calm shun root = absurd simple
+    statement_sought (assigns_record target items) k simple calm shun root =
+        let three = and_parts _ _ shun in
+        let one = and_parts (record_path_shuns types shuns apart variables target) (list_all (item_shuns types shuns apart variables) items) three.0 in
+        let own = and_parts (path_shuns types shuns apart variables target.object) (may_follow shuns (path_kind types variables target.object)) one.0 in
+        assigned_sought target items root.0 k (has_parts tds target.record_type) root.1 own.0
     statement_sought (frees access path) k simple calm shun root =
         let one = and_parts _ _ shun in
         let own = and_parts (path_shuns types shuns apart variables path) (may_follow shuns (path_kind types variables path)) one.0 in

@@ -1,6 +1,6 @@
 -- Records as wholes: they are copied and assigned to, where their components are Integers and Booleans, or Adjusts see to those of access types.
 
-use Rattle.std.proofs.Common.{◌≡◌, ℕ, ◌+◌, Bool, true, false, ◌||◌, ◌&&◌, List, [], ◌∷◌, ◌++◌, length, take, drop, reverse, refl, sym, ap, subst, ◌∙◌, inl, inr}
+use Rattle.std.proofs.Common.{◌≡◌, ℕ, zero, suc, ◌+◌, Bool, true, false, ◌||◌, ◌&&◌, List, [], ◌∷◌, ◌++◌, length, take, drop, reverse, refl, sym, ap, subst, ◌∙◌, inl, inr}
 use Rattle.std.proofs.lemmas.Bool.{eqb-true}
 use Rattle.std.specs.Prelude.{Option, Some, None, ◌==◌, if◌then◌else◌}
 use Rattle.std.specs.List.{list_any}
@@ -9,12 +9,13 @@ use Rattle.ada_program.specs.declared.program.Exception.{Exception}
 use Rattle.ada_program.specs.declared.program.Exception.TheVariants.{ConstraintError}
 use Rattle.ada_program.specs.declared.program.TypeDefinition.{TypeDefinition}
 use Rattle.ada_program.specs.declared.program.VariableKind.TheVariants as variable
-use Rattle.ada_program.specs.Form.{RecordPathForm, ItemForm, StmtsForm, assigns_record}
+use Rattle.ada_program.specs.Form.{RecordPathForm, ItemForm, null_item, item_of_path, item_of_value, item_of_record, StmtsForm, assigns_record}
 use Rattle.ada_program.specs.Handling.{is_same}
+use Rattle.ada_program.specs.ProgramForm.{TypeForm, VariableForm}
 use Rattle.ada_program.specs.Typed.{count_of, width_of}
-use Rattle.ada_program.specs.WellFormed.{record_components, reached_components, is_alike, begins_with, has_record_at}
+use Rattle.ada_program.specs.WellFormed.{record_components, reached_components, is_alike, begins_with, begins_with_record, has_record_at, is_record_path, item_fits, item_width, items_fit}
 use Rattle.ada_effects.specs.Effects.{effects_of, record_path_raises, items_raise, stmt_raises, assignment_frees}
-use Rattle.ada_flow.specs.Flow.{Holds, hold_at, is_owning, is_owning_record, passes_it, copies_to, uses_in_items, uses_in_record, uses_in_copy, record_passes, gives_record, using_paths, ends_with, gathers_owners}
+use Rattle.ada_flow.specs.Flow.{Holds, hold_at, is_owning, owns_among, is_owning_record, passes_it, copies_to, uses_in_items, uses_in_record, uses_in_copy, record_passes, gives_record, using_paths, ends_with, gathers_owners}
 use Rattle.ada_flow.specs.Tracking.{no_tracks}
 use Rattle.ada_meaning.specs.declared.state.Id.{Id}
 use Rattle.ada_meaning.specs.declared.state.Value.{Value}
@@ -45,7 +46,7 @@ use Rattle.ada_sound.proofs.NoneHidden.{shifted_none}
 use Rattle.ada_sound.proofs.HiddenOwners.{names_hidden, hide_set, components_there, stored_hidden, StoresWell, covered_stores, Hides, hide_all}
 use Rattle.ada_tracked.specs.Frames.{View, shifted, blanked, values_at}
 use Rattle.ada_typed.proofs.Parts.{shown_number}
-use Rattle.ada_sound.proofs.Invariant.{outers, AdjustsAside, Known, Control, Rooms, Goes, To, Raised, RunsOn, RaisesAt, IsPlainIn, AdjustedBehind, IsAdjustedIn, StoresSo, StoresFrom, AdjustsTo, ReadyIn, CopiesTo, RecordIn, Working, Fine, ways, begun, along}
+use Rattle.ada_sound.proofs.Invariant.{outers, AdjustsAside, Giving, GivingPlain, OwnsNothing, OwnNothing, Known, Control, Rooms, Goes, To, Raised, RunsOn, RaisesAt, IsPlainIn, AdjustedBehind, IsAdjustedIn, StoresSo, StoresFrom, AdjustsTo, ReadyIn, CopiesTo, RecordIn, Working, Fine, ways, begun, along}
 use Rattle.ada_sound.proofs.Ready.{running, at_work, at_less, stays, runs_ready, treats_ready, jumps_less}
 use Rattle.ada_sound.proofs.Outcomes.{raised_before, using_goes, ends_goes, loses_to}
 use Rattle.ada_sound.proofs.Followings.{first_kept, kept_apart}
@@ -89,6 +90,46 @@ from_object (c ∷ components) (kind ∷ kinds) begins plain =
     let b = both (is_alike c kind) (begins_with components kinds) begins in
     let p = neither (is_owning c) (list_any is_owning (take (length kinds) components)) plain in
     rw (← alike_owns c kind b.0, p.0) (from_object components kinds b.1 p.1)
+
+-- Some of the components of a plain list are.
+take_plain : (n : ℕ) (components : List ComponentKind) → list_any is_owning components ≡ false → list_any is_owning (take n components) ≡ false
+take_plain zero components plain = refl
+take_plain (suc n) [] plain = refl
+take_plain (suc n) (c ∷ components) plain =
+    let p = neither (is_owning c) (list_any is_owning components) plain in
+    rw p.0 (take_plain n components p.1)
+
+drop_plain : (n : ℕ) (components : List ComponentKind) → list_any is_owning components ≡ false → list_any is_owning (drop n components) ≡ false
+drop_plain zero components plain = plain
+drop_plain (suc n) [] plain = refl
+drop_plain (suc n) (c ∷ components) plain = drop_plain n components (neither (is_owning c) (list_any is_owning components) plain).1
+
+-- So items own nothing that fit them.
+begun_plain :
+    (components : List ComponentKind) (found : Option (List ComponentKind)) → begins_with_record components found ≡ true
+    → list_any is_owning components ≡ false → owns_among found ≡ false
+begun_plain components None begins plain = refl
+begun_plain components (Some kinds) begins plain = from_object components kinds begins (take_plain (length kinds) components plain)
+
+item_plain :
+    (types : List TypeForm) (variables : List VariableForm) (i : ItemForm) (components : List ComponentKind) → item_fits types variables components i ≡ true
+    → list_any is_owning components ≡ false → OwnsNothing types i
+item_plain types variables null_item components fits plain = tt
+item_plain types variables (item_of_path path) components fits plain = tt
+item_plain types variables (item_of_value e) components fits plain = tt
+item_plain types variables (item_of_record p) components fits plain =
+    begun_plain components (record_components types p.record_type)
+    (both (is_record_path types variables p) (begins_with_record components (record_components types p.record_type)) fits).1 plain
+
+items_plain :
+    (types : List TypeForm) (variables : List VariableForm) (items : List ItemForm) (components : List ComponentKind)
+    → items_fit types variables components items ≡ true → list_any is_owning components ≡ false → OwnNothing types items
+items_plain types variables [] components fits plain = tt
+items_plain types variables (i ∷ items) components fits plain =
+    let two = both (item_fits types variables components i) (items_fit types variables (drop (item_width types i) components) items) fits in (
+      item_plain types variables i components two.0 plain,
+      items_plain types variables items (drop (item_width types i) components) two.1 (drop_plain (item_width types i) components plain),
+    )
 
 -- Where the components of an object are covered, those of a record are with which they are alike.
 covers_same : (c kind : ComponentKind) → is_alike c kind ≡ true → (X : Type 0) → (is_owning c ≡ true → X) → is_owning kind ≡ true → X
@@ -193,6 +234,21 @@ module _ (known : Known) (types : List TypeDefinition) (reaches : Reaches known 
             ),
       )
 
+  -- Its items own nothing.
+  owning_nothing :
+      (first t : ℕ) (items : List ItemForm) (kinds : List OperandKind) (rooms : Rooms) (holds : Holds)
+      → typed.Fits known.program (cells_of s.heap) kinds (TargetsRecord first t items ∷ k) → is_owning_record known.program.types t ≡ false
+      → Giving known items k rooms holds → GivingPlain known items k rooms holds
+  owning_nothing first t items kinds rooms holds (ks, access, rs, is, components, lies, fits, more) plain giving =
+      let none : list_any is_owning rs ≡ false = rw components at plain in
+      record {
+        spot = giving.spot;
+        earlier = giving.earlier;
+        keeps = giving.keeps;
+        raises = giving.raises;
+        bare = λ so. items_plain known.program.types known.program.variables items rs fits none;
+      }
+
   pub record_target_fine : (first t : ℕ) (items : List ItemForm) (v : Value) (below : List Value) (kinds : List OperandKind) → typed.Fits known.program (cells_of s.heap) kinds (TargetsRecord first t items ∷ k) → AreComputed known.program.types (cells_of s.heap) kinds (v ∷ below) → Working known s.heap a.places s.masters (λ rooms holds. MayFollow s.heap v × RaisesAt known v [] k rooms holds × RecordIn known t items k rooms holds) → Fine known s.heap s.masters (record_target_next named v first (width_of types t) items (look s.heap v) (running k (record a { operands = below }) rest s))
   record_target_fine first t items Null below kinds fits computed w = jumps_less known k (record a { operands = below }) rest s (Raising ConstraintError) (at_work w (w.rest.1 refl))
   record_target_fine first t items (Names o) below kinds fits computed w =
@@ -201,7 +257,7 @@ module _ (known : Known) (types : List TypeDefinition) (reaches : Reaches known 
       let plain = plain_there first t o there.0 below kinds there.1 there.2 in_record.0 items fits computed in
       rw (there.1, (w.stored.sane o there.0 there.1).there_exists there.2)
       (stays known (Followed (Names o)) (running (Fills items ∷ StoresRecord (Names o) first (width_of types t) ∷ k) (record a { operands = below }) rest s)
-      (tt, at_work w (in_record.1, (plain, in_record.2))) (followed o there))
+      (tt, at_work w (owning_nothing first t items kinds w.rooms w.holds fits in_record.0 in_record.1, (plain, in_record.2))) (followed o there))
   record_target_fine first t items (Scalar n) below kinds fits computed w = tt
   record_target_fine first t items (Part object_id base) below kinds fits computed w = tt
 
@@ -360,6 +416,7 @@ record_begins known a rest s well target items fs k bare there w =
           earlier = [];
           keeps = items_keep program.types path.spot None w.holds [] items copied.1;
           raises = λ raises. (let either = or_right (record_path_raises target) (items_raise items) raises in n.1 either ConstraintError either);
+          bare = λ plain. absurd (cc plain);
         },
         n.0,
       ),

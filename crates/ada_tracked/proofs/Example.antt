@@ -21,7 +21,7 @@ use Rattle.ada_tracked.specs.Frames.{View}
 use Rattle.ada_tracked.specs.Seen.{seen_state, plainly, behind, IsWatched}
 use Rattle.ada_tracked.specs.Seen as waiting
 use Rattle.ada_tracked.specs.Copying.{is_tracked_at}
-use Rattle.ada_tracked.specs.Example.{ReadsTracked, AssignsTracked, CopiesUntracked, PremisesAreMet}
+use Rattle.ada_tracked.specs.Example.{ReadsTracked, AssignsTracked, CopiesUntracked, StoresBeside, PremisesAreMet}
 
 -- An object with these components.
 abbrev an_object : List Value → Object
@@ -165,9 +165,52 @@ copies_untracked = record {
   follows_too = refl;
 }
 
+-- It gets another value.
+abbrev heavier : Value
+heavier = Scalar (Integer (pos 6))
+
+abbrev storing : State
+storing = record before {
+  activations = record { procedure = Some 0; places = Part adjusted (record { component = 0; part = 0 }) ∷ Names adjusted ∷ []; operands = heavier ∷ [] } ∷ [];
+  control = frame.StoresRecord (Names adjusted) 1 1 ∷ frame.Does no_stmts ∷ frame.Returns [] [] ∷ [];
+  heap = weighed ∷ an_object (Names adjusted ∷ []) ∷ [];
+}
+
+abbrev stored : State
+stored = record storing {
+  activations = record { procedure = Some 0; places = Part adjusted (record { component = 0; part = 0 }) ∷ Names adjusted ∷ []; operands = [] } ∷ [];
+  control = frame.Does no_stmts ∷ frame.Returns [] [] ∷ [];
+  heap = an_object (shared ∷ heavier ∷ []) ∷ an_object (Names adjusted ∷ []) ∷ [];
+}
+
+heavier_there : IsWatched view (places stored) stored.heap
+heavier_there = record {
+  object = an_object (shared ∷ heavier ∷ []);
+  at_object = refl;
+  existing = refl;
+  below = (omega arith, tt);
+  apart = (tt, tt);
+  no_references = (refl, tt);
+  formal = (refl, refl);
+  count = refl;
+}
+
+stores_beside : StoresBeside weights [] view storing (seen_state view storing) stored (seen_state view stored)
+unfolding next
+stores_beside = record {
+  before = record { seen = plainly tt refl; watched = weighed_there; elsewhere = (refl, tt); copies = λ itself. none_copied; simple = (tt, tt) };
+  behind = record { seen = plainly tt refl; watched = heavier_there; elsewhere = (refl, tt); copies = tt; simple = (tt, tt) };
+  stored = (1, 1, frame.Does no_stmts ∷ frame.Returns [] [] ∷ [], refl, omega arith);
+  tracked = (0, record { 0 = 1 }, refl, refl);
+  changes = (1, λ same. cc);
+  follows = refl;
+  follows_too = refl;
+}
+
 pub premises_are_met : PremisesAreMet
 premises_are_met = (
   ([], [], view, before, seen_state view before, after, seen_state view after, reads_tracked),
   ([], [], view, assigning, seen_state view assigning, found, followed, seen_state view followed, assigns_tracked),
   (weights, [], view, copying, seen_state view copying, copied, seen_state view copied, copies_untracked),
+  (weights, [], view, storing, seen_state view storing, stored, seen_state view stored, stores_beside),
 )

@@ -57,7 +57,7 @@ selected_self v [] e = refl
 selected_self v (c ∷ cs) e = ap (λ (d : ℕ). d ∷ cs) (inside_self v c e)
 
 -- A component that is not tracked has no number.
-no_number : (found : Option ℕ) → is_some found ≡ false → found ≡ None
+pub no_number : (found : Option ℕ) → is_some found ≡ false → found ≡ None
 no_number None e = refl
 no_number (Some x) e = absurd (cc)
 

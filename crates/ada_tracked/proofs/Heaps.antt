@@ -1,6 +1,6 @@
 -- Heaps in which the tracked components of an object hold null.
 
-use Rattle.std.proofs.Common.{◌≡◌, ◌⊎◌, ℕ, Bool, true, false, List, ◌++◌, length, Option, Some, None, refl, sym, ap, ◌∙◌, inl, inr}
+use Rattle.std.proofs.Common.{◌≡◌, ◌⊎◌, ℕ, ◌+◌, Bool, true, false, List, [], ◌∷◌, ◌++◌, length, Option, Some, None, refl, sym, ap, ◌∙◌, inl, inr, subst}
 use Rattle.std.specs.Prelude.{◌==◌}
 use Rattle.std.specs.List.{slice_get, slice_set}
 use Rattle.std.proofs.lemmas.List.{set-set, set_comm}
@@ -9,7 +9,8 @@ use Rattle.ada_meaning.specs.declared.state.Value.{Value}
 use Rattle.ada_meaning.specs.declared.state.Value.TheVariants.{Null, Names, Scalar, Part}
 use Rattle.ada_meaning.specs.declared.state.Stage.TheVariants.{Existing}
 use Rattle.ada_meaning.specs.Heap.{Cell, finds}
-use Rattle.ada_meaning.specs.Named.{Object, object_at, changed, existing, look, lent_by, lent, standing_by, standing as listed_at, create, created, filled, on_object, store}
+use Rattle.ada_meaning.specs.Step.{stored_from}
+use Rattle.ada_meaning.specs.Named.{Object, named, object_at, changed, existing, look, lent_by, lent, standing_by, standing as listed_at, create, created, filled, on_object, store}
 use Rattle.ada_meaning.specs.Named as named_heap
 use Rattle.ada_tracked.specs.Frames.{View, watched, number_of, number_in, blank_object, blanked, values_at, values_of, tracked_values}
 use Rattle.ada_tracked.specs.Seen.{IsOther, AreApart, AreBelow}
@@ -179,6 +180,33 @@ module _ (w : View) (h : List Object) (x : Object) (there : object_at h w.object
       ∙ tracked_set (watched w) w.tracks.first c i v ps x.cell.values count apart below is
       ∙ ap (λ (vs : List Value). ps ++ vs) (sym (values_on (filled c v)))
 
+  -- Where a component gets a value that is none of the tracked ones.
+  there_still : (c : ℕ) (v u : Value) → (y : Object) × (object_at (store h v c u) w.object ≡ Some y)
+  there_still c Null u = (x, there)
+  there_still c (Names p) u = by (p.0 == w.object.0) refl
+    where
+      by : (b : Bool) → (p.0 == w.object.0) ≡ b → (y : Object) × (object_at (store h (Names p) c u) w.object ≡ Some y)
+      by true is = (
+        filled c u x,
+        ap (λ (v : Value). object_at (store h v c u) w.object) (one_object p w.object (is_same p.0 w.object.0 is))
+            ∙ ap (λ (g : List Object). object_at g w.object) (on_is (filled c u) h w.object x there) ∙ after_set (filled c u x),
+      )
+      by false ne = (x, still_by (filled c u) p ne (slice_get h p.0) ∙ there)
+  there_still c (Scalar n) u = (x, there)
+  there_still c (Part p place) u = (x, there)
+
+  -- Neither the tracked values nor what is seen of the object differ then.
+  abbrev SeenStored : Value → (component : ℕ) → Value → Type 0
+  SeenStored v c u = (store (blanked w h) v c u ≡ blanked w (store h v c u)) × (tracked_values w (store h v c u) ≡ tracked_values w h)
+
+  seen_stored : (v : Value) (c : ℕ) (u : Value) → number_in w v c ≡ None → SeenStored v c u
+  seen_stored v c u none = elim (which w.object v) [
+    | inl other ↦ (on_apart (filled c u) v other, values_apart (filled c u) v other)
+    | inr itself ↦ subst (λ (o : Value). SeenStored o c u) (sym itself)
+        (let here : number_of w c ≡ None = sym (number_there w c) ∙ ap (λ (o : Value). number_in w o c) (sym itself) ∙ none in
+        (store_untracked c u here, values_untracked c u here))
+  ]
+
   -- A new object.
   pub create_blanked : (words : ℕ) (cell : Cell Value) → create (blanked w h) words cell ≡ blanked w (create h words cell)
   create_blanked words cell =
@@ -192,3 +220,19 @@ module _ (w : View) (h : List Object) (x : Object) (there : object_at h w.object
 
   pub created_same : (words : ℕ) → created (blanked w h) words ≡ created h words
   created_same words = ap (λ (n : ℕ). Names (record { 0 = n })) blanked_length
+
+-- Values are stored from a component on of the object that a value names, and none of these components is tracked.
+abbrev pub StoresUntracked : View → Value → (component : ℕ) → List Value → Type 0
+StoresUntracked w v c [] = Unit {0}
+StoresUntracked w v c (u ∷ us) = (number_in w v c ≡ None) × StoresUntracked w v (c + 1) us
+
+-- So they are stored in what is seen, too.
+pub record_stored :
+    (w : View) (h : List Object) (x : Object) → object_at h w.object ≡ Some x → (v : Value) (c : ℕ) (us : List Value) → StoresUntracked w v c us
+    → (stored_from named (blanked w h) v c us ≡ blanked w (stored_from named h v c us)) × (tracked_values w (stored_from named h v c us) ≡ tracked_values w h)
+record_stored w h x there v c [] untracked = (refl, refl)
+record_stored w h x there v c (u ∷ us) untracked =
+    let one = seen_stored w h x there v c u untracked.0 in
+    let still = there_still w h x there c v u in
+    let more = record_stored w (store h v c u) still.0 still.1 v (c + 1) us untracked.1 in
+    (ap (λ (g : List Object). stored_from named g v (c + 1) us) one.0 ∙ more.0, more.1 ∙ one.1)

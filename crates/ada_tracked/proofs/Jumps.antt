@@ -137,8 +137,8 @@ module _ (types : List TypeDefinition) (bodies : List BodyForm) (w : View) where
   jump_shown t m (frame.Stores x) a rest s simple calm = passed t m (frame.Stores x) (frame.Stores x) a rest s refl refl (λ e. refl) refl refl (λ e. refl) refl refl calm
   jump_shown t m (frame.Targets c right) a rest s simple calm = passed t m (frame.Targets c right) (seen_frame w (frame.Targets c right)) a rest s refl refl (λ e. refl) refl refl (λ e. refl) refl refl calm
   jump_shown t m (frame.StoresIn v c) a rest s simple calm = stored_passed t m (number_in w v c) v c a rest s calm
-  jump_shown t m (frame.TargetsRecord c record_type items) a rest s simple calm = absurd simple
-  jump_shown t m (frame.StoresRecord o c count) a rest s simple calm = absurd simple
+  jump_shown t m (frame.TargetsRecord c record_type items) a rest s simple calm = passed t m (frame.TargetsRecord c record_type items) (seen_frame w (frame.TargetsRecord c record_type items)) a rest s refl refl (λ e. refl) refl refl (λ e. refl) refl refl calm
+  jump_shown t m (frame.StoresRecord v c count) a rest s simple calm = passed t m (frame.StoresRecord v c count) (frame.StoresRecord v c count) a rest s refl refl (λ e. refl) refl refl (λ e. refl) refl refl calm
   jump_shown t m (frame.Assigns record_type) a rest s simple calm = absurd simple
   jump_shown t m (frame.Receives c) a rest s simple calm = passed t m (frame.Receives c) (frame.Receives c) a rest s refl refl (λ e. refl) refl refl (λ e. refl) refl refl calm
   jump_shown t m (frame.FreesIn access c) a rest s simple calm = passed t m (frame.FreesIn access c) (frame.FreesIn access c) a rest s refl refl (λ e. refl) refl refl (λ e. refl) refl refl calm

@@ -14,6 +14,8 @@ pub mod Named
 pub mod Evaluations
 -- variables and components get values, and objects are freed
 pub mod Storing
+-- records are assigned as wholes
+pub mod Wholes
 -- the input is read, objects are freed and go, and masters are left
 pub mod Freeing
 -- statements, loops and declarations

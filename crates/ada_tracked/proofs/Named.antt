@@ -3,7 +3,7 @@
 use Rattle.std.proofs.Common.{◌≡◌, ℕ, zero, suc, ◌+◌, ◌<◌, Bool, true, false, List, [], ◌∷◌, length, Some, None, refl, sym, ap, ◌∙◌, subst, arith}
 use Rattle.std.specs.List.{slice_index_or}
 use Rattle.ada_program.specs.declared.program.TypeDefinition.{TypeDefinition}
-use Rattle.ada_program.specs.Form.{PathForm, RecordPathForm, item_of_record, StmtsForm, a_stmt}
+use Rattle.ada_program.specs.Form.{PathForm, RecordPathForm, ItemForm, item_of_record, StmtsForm, a_stmt}
 use Rattle.ada_program.specs.ProgramForm.{BodyForm}
 use Rattle.ada_meaning.specs.declared.state.Id.{Id}
 use Rattle.ada_meaning.specs.declared.state.Place.{Place}
@@ -13,10 +13,10 @@ use Rattle.ada_meaning.specs.Event.{Quiet}
 use Rattle.ada_meaning.specs.Frame.{Frame}
 use Rattle.ada_meaning.specs.Frame as frame
 use Rattle.ada_meaning.specs.State.{Activation}
-use Rattle.ada_meaning.specs.Step.{at, computed, held, path_next, selected, named_next, place_in, item_next, before_last, last_of, assign_next, gets_next, frees_next}
+use Rattle.ada_meaning.specs.Step.{at, computed, held, path_next, selected, named_next, place_in, item_next, record_assign_next, before_last, last_of, assign_next, gets_next, frees_next}
 use Rattle.ada_meaning.specs.Named.{Object, State, Next, named, whole, inside, next}
 use Rattle.ada_flow.specs.Tracking.{seen}
-use Rattle.ada_tracked.specs.Forms.{seen_record, seen_right, seen_stmts}
+use Rattle.ada_tracked.specs.Forms.{seen_record, seen_items, seen_right, seen_stmts}
 use Rattle.ada_tracked.specs.Frames.{View, number_of, seen_control, tracked_values, standing}
 use Rattle.ada_tracked.specs.Simple.{PathIsSimple}
 use Rattle.ada_tracked.specs.Seen.{awaits_holder, refers, seen_state, Waiting, assigning, getting, freeing, waiting_frame, waiting_statement, elsewhere, behind, IsWatched}
@@ -217,6 +217,18 @@ module _ (types : List TypeDefinition) (bodies : List BodyForm) (w : View) where
       ap (λ (c : ℕ). named_next named path.selectors path.root (at (frame.Copies c q.record_type ∷ seen_control w s.control) z))
       (place_by q a rest s inside p (begins w q.object)) in
       subst (λ (n : Next). Shown types bodies w t (item_next named (item_of_record q) (running a rest s)) n) (sym goes)
+      (named_within t q.object a rest (at k s) inside p starts refl (stays.0, stays.1, stays.2, stays.3 ∙ goes))
+
+  -- So it is with one that is assigned to.
+  pub assigned_shown : (t : State) (q : RecordPathForm) (items : List ItemForm) (a : Activation Value) (rest : List (Activation Value)) (s : State) → q.object.root < w.tracks.first → IsWatched w a.places s.heap → StartsElsewhere w.object q.object.root q.object.selectors (slice_index_or a.places q.object.root Null) → Stays types bodies w (running a rest s) t (record_assign_next named false (seen_record w.tracks q) (seen_items w.tracks items) (seen_state w (running a rest s))) → Shown types bodies w t (record_assign_next named false q items (running a rest s)) (record_assign_next named false (seen_record w.tracks q) (seen_items w.tracks items) (seen_state w (running a rest s)))
+  assigned_shown t q items a rest s inside p starts stays =
+      let z = seen_state w (running a rest s) in
+      let path = seen w.tracks q.object in
+      let k = frame.TargetsRecord (component_in q (running a rest s)) q.record_type items ∷ s.control in
+      let goes : record_assign_next named false (seen_record w.tracks q) (seen_items w.tracks items) z ≡ named_next named path.selectors path.root (at (seen_control w k) z) =
+      ap (λ (c : ℕ). named_next named path.selectors path.root (at (frame.TargetsRecord c q.record_type (seen_items w.tracks items) ∷ seen_control w s.control) z))
+      (place_by q a rest s inside p (begins w q.object)) in
+      subst (λ (n : Next). Shown types bodies w t (record_assign_next named false q items (running a rest s)) n) (sym goes)
       (named_within t q.object a rest (at k s) inside p starts refl (stays.0, stays.1, stays.2, stays.3 ∙ goes))
 
   -- The object in which the last component of a path lies, where that begins with what another variable holds.

@@ -16,19 +16,20 @@ use Rattle.ada_meaning.specs.Event.{Line, Quiet}
 use Rattle.ada_meaning.specs.Frame.{Frame}
 use Rattle.ada_meaning.specs.Frame as frame
 use Rattle.ada_meaning.specs.State.{Activation, collection, storage_pool, pools_in, pool_for}
-use Rattle.ada_meaning.specs.Step.{moves, at, raised, jumping, put, entered, owned, path_next, before_last, last_of, branches_next, decided_next, turn_next, repeats_next, turned_next, count_turn_next, counts_next, ranges_next, exit_next, exited_next, stmt_next, stmts_next, line_next, declaration_next, declarations_next}
+use Rattle.ada_meaning.specs.Step.{moves, at, raised, jumping, put, entered, owned, path_next, before_last, last_of, branches_next, decided_next, turn_next, repeats_next, turned_next, count_turn_next, counts_next, ranges_next, exit_next, exited_next, record_assign_next, stmt_next, stmts_next, line_next, declaration_next, declarations_next}
 use Rattle.ada_meaning.specs.Named.{Object, State, Next, named, whole, inside, an_integer, next}
 use Rattle.ada_flow.specs.Tracking.{seen}
-use Rattle.ada_tracked.specs.Forms.{seen_expression, seen_condition, seen_stmt, seen_stmts, seen_branches, seen_handlers, seen_declaration, seen_declarations}
+use Rattle.ada_tracked.specs.Forms.{seen_expression, seen_condition, seen_record, seen_items, seen_stmt, seen_stmts, seen_branches, seen_handlers, seen_declaration, seen_declarations}
 use Rattle.ada_tracked.specs.Frames.{View, number_of, seen_control, tracked_values, standing}
 use Rattle.ada_tracked.specs.Simple.{IsVariable, IsFrom, PathIsSimple, StatementIsSimple, StatementsAreSimple, DeclarationIsSimple, DeclarationsAreSimple}
 use Rattle.ada_tracked.specs.Seen.{awaits_holder, seen_state, plainly, IsWatched, Waiting, assigning, getting, freeing, waiting_frame, waiting_statement}
 use Rattle.ada_tracked.specs.Looking.{LeadsElsewhere, HolderIsElsewhere, StatementsLookElsewhere}
+use Rattle.ada_tracked.specs.Copying.{StatementsAssignBare}
 use Rattle.ada_tracked.specs.Law.{same, Shown}
 use Rattle.ada_tracked.proofs.Lists.{read_front, clear}
 use Rattle.ada_tracked.proofs.Paths.{Begins, apart, itself, untracked, tracked, begins, goes_on, within, formal}
 use Rattle.ada_tracked.proofs.Found.{running, plain, idly, holder_by}
-use Rattle.ada_tracked.proofs.Named.{seen_waiting, start_next, start_holder, BehindElsewhere, behind_formal, holder_other, holder_formal, holder_tracked}
+use Rattle.ada_tracked.proofs.Named.{seen_waiting, start_next, start_holder, BehindElsewhere, behind_formal, assigned_shown, holder_other, holder_formal, holder_tracked}
 use Rattle.ada_tracked.proofs.Storing.{steps, put_seen, inside_places}
 use Rattle.ada_tracked.proofs.Freeing.{StartsAt, variable_shown}
 
@@ -175,42 +176,50 @@ module _ (types : List TypeDefinition) (bodies : List BodyForm) (w : View) where
   line_shown t (Some i) a rest s calm = idly types bodies w t (Line (Image i)) (running a rest s) calm
 
   -- A statement that is first of what is left.
-  stmt_shown : (f : StmtForm) (fs : StmtsForm) (k : List (Frame Value)) (a : Activation Value) (rest : List (Activation Value)) (s : State) → StatementIsSimple w.tracks.first f → IsWatched w a.places s.heap → StatementsLookElsewhere w.object (at (frame.Does (a_stmt f fs) ∷ k) (running a rest s)) (a_stmt f fs) → Shown types bodies w (seen_state w (at (frame.Does (a_stmt f fs) ∷ k) (running a rest s))) (stmt_next named types bodies f (at (frame.Does fs ∷ k) (running a rest s))) (stmt_next named types bodies (seen_stmt w.tracks f) (seen_state w (at (frame.Does fs ∷ k) (running a rest s))))
+  stmt_shown : (f : StmtForm) (fs : StmtsForm) (k : List (Frame Value)) (a : Activation Value) (rest : List (Activation Value)) (s : State) → StatementIsSimple w.tracks.first f → IsWatched w a.places s.heap → StatementsLookElsewhere w.object (at (frame.Does (a_stmt f fs) ∷ k) (running a rest s)) (a_stmt f fs) → StatementsAssignBare types (a_stmt f fs) → Shown types bodies w (seen_state w (at (frame.Does (a_stmt f fs) ∷ k) (running a rest s))) (stmt_next named types bodies f (at (frame.Does fs ∷ k) (running a rest s))) (stmt_next named types bodies (seen_stmt w.tracks f) (seen_state w (at (frame.Does fs ∷ k) (running a rest s))))
   unfolding next
-  stmt_shown skips fs k a rest s simple p looks =
+  stmt_shown skips fs k a rest s simple p looks bare =
       idly types bodies w (seen_state w (at (frame.Does (a_stmt skips fs) ∷ k) (running a rest s))) Quiet (at (frame.Does fs ∷ k) (running a rest s)) refl
-  stmt_shown (assigns target right) fs k a rest s simple p looks =
+  stmt_shown (assigns target right) fs k a rest s simple p looks bare =
       start_shown (seen_state w (at (frame.Does (a_stmt (assigns target right) fs) ∷ k) (running a rest s))) (assigning right) target fs k a rest (at (frame.Does fs ∷ k) s) refl simple.0 looks p refl refl
-  stmt_shown (assigns_record target items) fs k a rest s simple p looks = absurd simple
-  stmt_shown (frees access path) fs k a rest s simple p looks =
+  stmt_shown (assigns_record target items) fs k a rest s simple p looks bare =
+      let z = at (frame.Does fs ∷ k) s in
+      let t = seen_state w (at (frame.Does (a_stmt (assigns_record target items) fs) ∷ k) (running a rest s)) in
+      let goes : next types bodies t ≡ record_assign_next named false (seen_record w.tracks target) (seen_items w.tracks items) (seen_state w (running a rest z)) =
+      ap (λ (b : Bool). record_assign_next named b (seen_record w.tracks target) (seen_items w.tracks items) (seen_state w (running a rest z))) bare in
+      subst (λ (b : Bool). Shown types bodies w t (record_assign_next named b target items (running a rest z)) (record_assign_next named b (seen_record w.tracks target) (seen_items w.tracks items) (seen_state w (running a rest z))))
+      (sym bare)
+      (assigned_shown types bodies w t target items a rest z simple.0 p looks
+      (seen_control w (frame.Does (a_stmt (assigns_record target items) fs) ∷ k), a.operands, refl, goes))
+  stmt_shown (frees access path) fs k a rest s simple p looks bare =
       start_shown (seen_state w (at (frame.Does (a_stmt (frees access path) fs) ∷ k) (running a rest s))) (freeing access) path fs k a rest (at (frame.Does fs ∷ k) s) refl simple looks p refl refl
-  stmt_shown (gets target) fs k a rest s simple p looks =
+  stmt_shown (gets target) fs k a rest s simple p looks bare =
       start_shown (seen_state w (at (frame.Does (a_stmt (gets target) fs) ∷ k) (running a rest s))) getting target fs k a rest (at (frame.Does fs ∷ k) s) refl simple looks p refl refl
-  stmt_shown (writes e) fs k a rest s simple p looks =
+  stmt_shown (writes e) fs k a rest s simple p looks bare =
       idly types bodies w (seen_state w (at (frame.Does (a_stmt (writes e) fs) ∷ k) (running a rest s))) Quiet (at (frame.Computes e ∷ frame.Writes ∷ frame.Does fs ∷ k) (running a rest s)) refl
-  stmt_shown (writes_text text) fs k a rest s simple p looks =
+  stmt_shown (writes_text text) fs k a rest s simple p looks bare =
       idly types bodies w (seen_state w (at (frame.Does (a_stmt (writes_text text) fs) ∷ k) (running a rest s))) (Line (Literal (record { 0 = text }))) (at (frame.Does fs ∷ k) (running a rest s)) refl
-  stmt_shown (chooses branches) fs k a rest s simple p looks =
+  stmt_shown (chooses branches) fs k a rest s simple p looks bare =
       branches_shown (seen_state w (at (frame.Does (a_stmt (chooses branches) fs) ∷ k) (running a rest s))) branches a rest (at (frame.Does fs ∷ k) s)
-  stmt_shown (repeats condition gs spot) fs k a rest s simple p looks =
+  stmt_shown (repeats condition gs spot) fs k a rest s simple p looks bare =
       idly types bodies w (seen_state w (at (frame.Does (a_stmt (repeats condition gs spot) fs) ∷ k) (running a rest s))) Quiet (at (frame.Repeats condition gs ∷ frame.Does fs ∷ k) (running a rest s)) refl
-  stmt_shown (counts x low high gs spot) fs k a rest s simple p looks =
+  stmt_shown (counts x low high gs spot) fs k a rest s simple p looks bare =
       idly types bodies w (seen_state w (at (frame.Does (a_stmt (counts x low high gs spot) fs) ∷ k) (running a rest s))) Quiet
       (at (frame.Computes low ∷ frame.Computes high ∷ frame.Ranges x gs ∷ frame.Does fs ∷ k) (running a rest s)) refl
-  stmt_shown (exits condition spot) fs k a rest s simple p looks =
+  stmt_shown (exits condition spot) fs k a rest s simple p looks bare =
       exit_shown (seen_state w (at (frame.Does (a_stmt (exits condition spot) fs) ∷ k) (running a rest s))) condition a rest (at (frame.Does fs ∷ k) s)
-  stmt_shown (calls procedure actuals) fs k a rest s simple p looks = absurd simple
-  stmt_shown (returns spot) fs k a rest s simple p looks =
+  stmt_shown (calls procedure actuals) fs k a rest s simple p looks bare = absurd simple
+  stmt_shown (returns spot) fs k a rest s simple p looks bare =
       plain types bodies w (seen_state w (at (frame.Does (a_stmt (returns spot) fs) ∷ k) (running a rest s))) Quiet (jumping Returning (at (frame.Does fs ∷ k) (running a rest s))) tt
-  stmt_shown (raises e) fs k a rest s simple p looks =
+  stmt_shown (raises e) fs k a rest s simple p looks bare =
       plain types bodies w (seen_state w (at (frame.Does (a_stmt (raises e) fs) ∷ k) (running a rest s))) Quiet (raised e (at (frame.Does fs ∷ k) (running a rest s))) tt
-  stmt_shown (encloses ds gs hs) fs k a rest s simple p looks =
+  stmt_shown (encloses ds gs hs) fs k a rest s simple p looks bare =
       idly types bodies w (seen_state w (at (frame.Does (a_stmt (encloses ds gs hs) fs) ∷ k) (running a rest s))) Quiet
       (entered (at (frame.Elaborates ds gs hs ∷ frame.Does fs ∷ k) (running a rest s))) refl
 
-  pub stmts_shown : (fs : StmtsForm) (k : List (Frame Value)) (a : Activation Value) (rest : List (Activation Value)) (s : State) → StatementsAreSimple w.tracks.first fs → IsWatched w a.places s.heap → StatementsLookElsewhere w.object (at (frame.Does fs ∷ k) (running a rest s)) fs → awaits_holder k ≡ false → Shown types bodies w (seen_state w (at (frame.Does fs ∷ k) (running a rest s))) (stmts_next named types bodies fs (at k (running a rest s))) (stmts_next named types bodies (seen_stmts w.tracks fs) (seen_state w (at k (running a rest s))))
-  stmts_shown no_stmts k a rest s simple p looks calm = idly types bodies w (seen_state w (at (frame.Does no_stmts ∷ k) (running a rest s))) Quiet (at k (running a rest s)) calm
-  stmts_shown (a_stmt f fs) k a rest s simple p looks calm = stmt_shown f fs k a rest s simple.0 p looks
+  pub stmts_shown : (fs : StmtsForm) (k : List (Frame Value)) (a : Activation Value) (rest : List (Activation Value)) (s : State) → StatementsAreSimple w.tracks.first fs → IsWatched w a.places s.heap → StatementsLookElsewhere w.object (at (frame.Does fs ∷ k) (running a rest s)) fs → StatementsAssignBare types fs → awaits_holder k ≡ false → Shown types bodies w (seen_state w (at (frame.Does fs ∷ k) (running a rest s))) (stmts_next named types bodies fs (at k (running a rest s))) (stmts_next named types bodies (seen_stmts w.tracks fs) (seen_state w (at k (running a rest s))))
+  stmts_shown no_stmts k a rest s simple p looks bare calm = idly types bodies w (seen_state w (at (frame.Does no_stmts ∷ k) (running a rest s))) Quiet (at k (running a rest s)) calm
+  stmts_shown (a_stmt f fs) k a rest s simple p looks bare calm = stmt_shown f fs k a rest s simple.0 p looks bare
 
   -- Declarations.
   declaration_shown : (t : State) (d : DeclarationForm) (a : Activation Value) (rest : List (Activation Value)) (s : State) → DeclarationIsSimple w.tracks.first d → awaits_holder s.control ≡ false → Shown types bodies w t (declaration_next named types d (running a rest s)) (declaration_next named types (seen_declaration w.tracks d) (seen_state w (running a rest s)))

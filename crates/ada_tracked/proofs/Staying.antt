@@ -27,9 +27,10 @@ use Rattle.ada_meaning.specs.Frame.{Treatment, begins, ends, Frame, is_master, L
 use Rattle.ada_meaning.specs.Frame as frame
 use Rattle.ada_meaning.specs.State.{Destination, Item, Master, Owned, declared, collection, record_object, storage_pool, home_of, pool_freed_to}
 use Rattle.ada_meaning.specs.Heap.{Cell, Found, on_null, on_gone, on_other, finds}
-use Rattle.ada_meaning.specs.Step.{moves, halts, all_tasks, treating, same_pool, freeing, at, newest, popped, held, reading, component_next, follow_next, path_next, selected, before_last, last_of, named_next, holder_next, expression_next, null_test_next, is_decided, link_next, links_next, outcome_next, items_next, record_in, place_in, copied_next, copies_next, answered, new_next, right_next, freeing_next, free_next, end_next, told_back, given_back, back_next, assign_next, target_next, stored_next, store_next, frees_next, freed_next, free_component_next, free_in_next, branches_next, decided_next, turn_next, repeats_next, turned_next, count_turn_next, ranges_next, gets_next, received_next, receive_next, exit_next, exited_next, stmt_next, stmts_next, line_next, declarations_next, taken_out, members_next, item_leave_next, master_leave_next, leave_next, frame_next, landed, pass_next}
+use Rattle.ada_meaning.specs.Step.{moves, halts, all_tasks, treating, same_pool, freeing, at, newest, popped, held, reading, component_next, follow_next, path_next, selected, before_last, last_of, named_next, holder_next, expression_next, null_test_next, is_decided, link_next, links_next, outcome_next, items_next, record_in, place_in, copied_next, copies_next, newest_ones, without_newest, record_assign_next, record_target_next, record_stored_next, store_record_next, answered, new_next, right_next, freeing_next, free_next, end_next, told_back, given_back, back_next, assign_next, target_next, stored_next, store_next, frees_next, freed_next, free_component_next, free_in_next, branches_next, decided_next, turn_next, repeats_next, turned_next, count_turn_next, ranges_next, gets_next, received_next, receive_next, exit_next, exited_next, stmt_next, stmts_next, line_next, declarations_next, taken_out, members_next, item_leave_next, master_leave_next, leave_next, frame_next, landed, pass_next}
 use Rattle.ada_meaning.specs.Named.{State, named, whole, inside, look, lent, standing, returned, on_object, reads_integer, reads_boolean, reads_null, unary_given, binary_given, next}
 use Rattle.ada_tracked.specs.Simple.{IsVariable, IsFrom, ExpressionIsSimple, LinksAreSimple, ConditionIsSimple, ItemsAreSimple, RightIsSimple, DeclarationsAreSimple, StatementIsSimple, StatementsAreSimple, BranchesAreSimple, HandlersAreSimple, FrameIsSimple}
+use Rattle.ada_tracked.specs.Copying.{StatementsAssignBare, FirstAssignsBare}
 use Rattle.ada_tracked.proofs.Jumps.{in_each_mode, jump_at}
 use Rattle.ada_tracked.specs.Staying.{BodyIsSimple, IsWithinBody, StaysSimple, at_once, behind_treatment, AllStaySimple, SimpleBodiesStaySimple}
 
@@ -275,26 +276,30 @@ module _ (types : List TypeDefinition) (bodies : List BodyForm) (first : ℕ) wh
   line_stays (Some i) s h = at_once h
 
   -- Statements and declarations.
-  stmt_stays : (f : StmtForm) (s : State) → StatementIsSimple first f → BodyIsSimple first s.control → AllStaySimple first (stmt_next named types bodies f s)
-  stmt_stays skips s simple h = at_once h
-  stmt_stays (assigns target right) s simple h = assign_stays target.selectors target.root right s simple.0 simple.1 h
-  stmt_stays (assigns_record target items) s simple h = absurd simple
-  stmt_stays (frees access path) s simple h = frees_stays path access path.selectors s simple h
-  stmt_stays (gets target) s simple h = gets_stays target.selectors target.root s.input s h
-  stmt_stays (writes e) s simple h = at_once (simple, (tt, h))
-  stmt_stays (writes_text text) s simple h = at_once h
-  stmt_stays (chooses branches) s simple h = branches_stay branches s simple h
-  stmt_stays (repeats condition fs spot) s simple h = at_once (simple, h)
-  stmt_stays (counts x low high fs spot) s simple h = at_once (simple.1, (simple.2, ((simple.0, simple.3), h)))
-  stmt_stays (exits condition spot) s simple h = exit_stays condition s simple h
-  stmt_stays (calls procedure actuals) s simple h = absurd simple
-  stmt_stays (returns spot) s simple h = at_once h
-  stmt_stays (raises e) s simple h = at_once h
-  stmt_stays (encloses ds fs hs) s simple h = at_once (simple, h)
+  stmt_stays : (f : StmtForm) (fs : StmtsForm) (s : State) → StatementsAssignBare types (a_stmt f fs) → StatementIsSimple first f → BodyIsSimple first s.control → AllStaySimple first (stmt_next named types bodies f s)
+  stmt_stays skips gs s bare simple h = at_once h
+  stmt_stays (assigns target right) gs s bare simple h = assign_stays target.selectors target.root right s simple.0 simple.1 h
+  stmt_stays (assigns_record target items) gs s bare simple h =
+      let v = held named s target.object.root in
+      subst (λ (parts : Bool). AllStaySimple first (record_assign_next named parts target items s)) (sym bare)
+      (path_stays (selected named v target.object.selectors) (whole v)
+      (at (frame.TargetsRecord (place_in named v target.object.selectors target).component target.record_type items ∷ s.control) s) (simple.1, h))
+  stmt_stays (frees access path) gs s bare simple h = frees_stays path access path.selectors s simple h
+  stmt_stays (gets target) gs s bare simple h = gets_stays target.selectors target.root s.input s h
+  stmt_stays (writes e) gs s bare simple h = at_once (simple, (tt, h))
+  stmt_stays (writes_text text) gs s bare simple h = at_once h
+  stmt_stays (chooses branches) gs s bare simple h = branches_stay branches s simple h
+  stmt_stays (repeats condition fs spot) gs s bare simple h = at_once (simple, h)
+  stmt_stays (counts x low high fs spot) gs s bare simple h = at_once (simple.1, (simple.2, ((simple.0, simple.3), h)))
+  stmt_stays (exits condition spot) gs s bare simple h = exit_stays condition s simple h
+  stmt_stays (calls procedure actuals) gs s bare simple h = absurd simple
+  stmt_stays (returns spot) gs s bare simple h = at_once h
+  stmt_stays (raises e) gs s bare simple h = at_once h
+  stmt_stays (encloses ds fs hs) gs s bare simple h = at_once (simple, h)
 
-  stmts_stay : (fs : StmtsForm) (s : State) → StatementsAreSimple first fs → BodyIsSimple first s.control → AllStaySimple first (stmts_next named types bodies fs s)
-  stmts_stay no_stmts s simple h = at_once h
-  stmts_stay (a_stmt f fs) s simple h = stmt_stays f (at (frame.Does fs ∷ s.control) s) simple.0 (simple.1, h)
+  stmts_stay : (fs : StmtsForm) (s : State) → StatementsAssignBare types fs → StatementsAreSimple first fs → BodyIsSimple first s.control → AllStaySimple first (stmts_next named types bodies fs s)
+  stmts_stay no_stmts s bare simple h = at_once h
+  stmts_stay (a_stmt f fs) s bare simple h = stmt_stays f fs (at (frame.Does fs ∷ s.control) s) bare simple.0 (simple.1, h)
 
   declarations_stay : (ds : List DeclarationForm) (fs : StmtsForm) (hs : HandlersForm) (s : State) → DeclarationsAreSimple first ds → StatementsAreSimple first fs → HandlersAreSimple first hs → BodyIsSimple first s.control → AllStaySimple first (declarations_next named types ds fs hs s)
   declarations_stay [] fs hs s simple one more h = at_once (one, (more, (tt, h)))
@@ -329,56 +334,74 @@ module _ (types : List TypeDefinition) (bodies : List BodyForm) (first : ℕ) wh
   leave_stays mode [] s h = tt
   leave_stays mode (m ∷ ms) s h = master_stays mode m.number m.items s h
 
+  -- A record is assigned as a whole.
+  record_target_stays : (v : Value) (c count : ℕ) (items : List ItemForm) (found : Found (Cell Value)) (s : State) → ItemsAreSimple first items → BodyIsSimple first s.control → AllStaySimple first (record_target_next named v c count items found s)
+  record_target_stays v c count items on_null s simple h = at_once h
+  record_target_stays v c count items on_gone s simple h = tt
+  record_target_stays v c count items on_other s simple h = tt
+  record_target_stays v c count items (finds cell) s simple h = at_once (simple, (tt, h))
+
+  record_stored_stays : (v : Value) (c : ℕ) (us : List Value) (found : Option (List Value)) (s : State) → BodyIsSimple first s.control → AllStaySimple first (record_stored_next named v c us found s)
+  record_stored_stays v c us None s h = tt
+  record_stored_stays v c us (Some before) s h = at_once h
+
+  store_record_stays : (v : Value) (c count : ℕ) (found : Found (Cell Value)) (s : State) → BodyIsSimple first s.control → AllStaySimple first (store_record_next named v c count found s)
+  store_record_stays v c count on_null s h = tt
+  store_record_stays v c count on_gone s h = tt
+  store_record_stays v c count on_other s h = tt
+  store_record_stays v c count (finds cell) s h = record_stored_stays v c (newest_ones named count s) (record_in cell.values c count) (without_newest named count s) h
+
   -- What a frame does.
-  frame_stays : (f : Frame Value) (s : State) → FrameIsSimple first f → BodyIsSimple first s.control → AllStaySimple first (frame_next named types bodies f s)
-  frame_stays (frame.Elaborates ds fs hs) s simple h = declarations_stay ds fs hs s simple.0 simple.1 simple.2 h
-  frame_stays (frame.Does fs) s simple h = stmts_stay fs s simple h
-  frame_stays (frame.Decides fs branches) s simple h = decided_stays fs branches (reads_boolean (newest named s)) (popped s) simple.0 simple.1 h
-  frame_stays (frame.Repeats condition fs) s simple h = repeats_stay condition fs s simple.0 simple.1 h
-  frame_stays (frame.Turns condition fs) s simple h = turned_stays condition fs (reads_boolean (newest named s)) (popped s) simple.0 simple.1 h
-  frame_stays (frame.Ranges x fs) s simple h =
+  frame_stays : (f : Frame Value) (s : State) → FirstAssignsBare types Running (f ∷ s.control) → FrameIsSimple first f → BodyIsSimple first s.control → AllStaySimple first (frame_next named types bodies f s)
+  frame_stays (frame.Elaborates ds fs hs) s bare simple h = declarations_stay ds fs hs s simple.0 simple.1 simple.2 h
+  frame_stays (frame.Does fs) s bare simple h = stmts_stay fs s bare simple h
+  frame_stays (frame.Decides fs branches) s bare simple h = decided_stays fs branches (reads_boolean (newest named s)) (popped s) simple.0 simple.1 h
+  frame_stays (frame.Repeats condition fs) s bare simple h = repeats_stay condition fs s simple.0 simple.1 h
+  frame_stays (frame.Turns condition fs) s bare simple h = turned_stays condition fs (reads_boolean (newest named s)) (popped s) simple.0 simple.1 h
+  frame_stays (frame.Ranges x fs) s bare simple h =
       ranges_stay x fs (reads_integer (newest named (popped s))) (reads_integer (newest named s)) (popped (popped s)) simple.0 simple.1 h
-  frame_stays (frame.Counts x value last fs) s simple h = counting_stays (int_le value last) x value last fs s simple.0 simple.1 h
-  frame_stays frame.Exits s simple h = exited_stays (reads_boolean (newest named s)) (popped s) h
-  frame_stays (frame.Handles hs) s simple h = at_once h
-  frame_stays frame.Closes s simple h = at_once (tt, h)
-  frame_stays (frame.Leaves mode) s simple h = leave_stays mode s.masters s h
-  frame_stays (frame.Calls procedure b actuals) s simple h = absurd simple
-  frame_stays (frame.Returns actuals references) s simple h = absurd simple
-  frame_stays (frame.Evaluates right) s simple h = right_stays right s simple h
-  frame_stays (frame.Computes e) s simple h = expression_stays e s simple h
-  frame_stays (frame.Follows cs) s simple h = path_stays cs (newest named s) (popped s) h
-  frame_stays (frame.TestsNull equal) s simple h = null_test_stays equal (reads_null (newest named s)) (popped s) h
-  frame_stays (frame.Refers q) s simple h = absurd simple
-  frame_stays (frame.RefersIn place record_type) s simple h = absurd simple
-  frame_stays (frame.Opens path) s simple h = absurd simple
-  frame_stays (frame.OpensIn c) s simple h = absurd simple
-  frame_stays (frame.Continues links) s simple h = links_stay links s simple h
-  frame_stays (frame.Applies operator) s simple h = outcome_stays (binary_given operator (newest named (popped s)) (newest named s)) (popped (popped s)) h
-  frame_stays (frame.AppliesAlone operator) s simple h = outcome_stays (unary_given operator (newest named s)) (popped s) h
-  frame_stays (frame.Fills items) s simple h = items_stay items s simple h
-  frame_stays (frame.Copies c record_type) s simple h =
+  frame_stays (frame.Counts x value last fs) s bare simple h = counting_stays (int_le value last) x value last fs s simple.0 simple.1 h
+  frame_stays frame.Exits s bare simple h = exited_stays (reads_boolean (newest named s)) (popped s) h
+  frame_stays (frame.Handles hs) s bare simple h = at_once h
+  frame_stays frame.Closes s bare simple h = at_once (tt, h)
+  frame_stays (frame.Leaves mode) s bare simple h = leave_stays mode s.masters s h
+  frame_stays (frame.Calls procedure b actuals) s bare simple h = absurd simple
+  frame_stays (frame.Returns actuals references) s bare simple h = absurd simple
+  frame_stays (frame.Evaluates right) s bare simple h = right_stays right s simple h
+  frame_stays (frame.Computes e) s bare simple h = expression_stays e s simple h
+  frame_stays (frame.Follows cs) s bare simple h = path_stays cs (newest named s) (popped s) h
+  frame_stays (frame.TestsNull equal) s bare simple h = null_test_stays equal (reads_null (newest named s)) (popped s) h
+  frame_stays (frame.Refers q) s bare simple h = absurd simple
+  frame_stays (frame.RefersIn place record_type) s bare simple h = absurd simple
+  frame_stays (frame.Opens path) s bare simple h = absurd simple
+  frame_stays (frame.OpensIn c) s bare simple h = absurd simple
+  frame_stays (frame.Continues links) s bare simple h = links_stay links s simple h
+  frame_stays (frame.Applies operator) s bare simple h = outcome_stays (binary_given operator (newest named (popped s)) (newest named s)) (popped (popped s)) h
+  frame_stays (frame.AppliesAlone operator) s bare simple h = outcome_stays (unary_given operator (newest named s)) (popped s) h
+  frame_stays (frame.Fills items) s bare simple h = items_stay items s simple h
+  frame_stays (frame.Copies c record_type) s bare simple h =
       copies_stay (newest named s) c (width_of types record_type) (look s.heap (newest named s)) (popped s) h
-  frame_stays (frame.Creates access count) s simple h = new_stays access count (words_of types access) (home_of access s.masters) s h
-  frame_stays (frame.Stores x) s simple h = at_once h
-  frame_stays (frame.Targets c right) s simple h = target_stays (newest named s) c right (look s.heap (newest named s)) (popped s) simple h
-  frame_stays (frame.StoresIn o c) s simple h = store_stays o c (newest named s) (look s.heap o) (popped s) h
-  frame_stays (frame.TargetsRecord c record_type items) s simple h = absurd simple
-  frame_stays (frame.StoresRecord o c count) s simple h = absurd simple
-  frame_stays (frame.Assigns record_type) s simple h = absurd simple
-  frame_stays (frame.Receives c) s simple h = receive_stays (newest named s) c (look s.heap (newest named s)) (popped s) h
-  frame_stays (frame.FreesIn access c) s simple h = free_in_stays access (newest named s) c (look s.heap (newest named s)) (popped s) h
-  frame_stays (frame.Declares x) s simple h = at_once h
-  frame_stays (frame.DeclaresRecord x record_type) s simple h = absurd simple
-  frame_stays (frame.Treats v treatment tasks) s simple h = absurd simple
-  frame_stays (frame.Awaits v by done of part tasks) s simple h = absurd simple
-  frame_stays frame.Confines s simple h = absurd simple
-  frame_stays (frame.Resumes mode) s simple h = absurd simple
-  frame_stays frame.Writes s simple h = line_stays (reads_integer (newest named s)) (popped s) h
-  frame_stays (frame.Ends v) s simple h = end_stays v (look s.heap v) s h
-  frame_stays (frame.GivesBack v cause pool) s simple h = back_stays v cause pool (lent s.heap v) s h
-  frame_stays (frame.Clears x) s simple h = at_once h
-  frame_stays (frame.ClearsIn o c) s simple h = store_stays o c named.null (look s.heap o) s h
+  frame_stays (frame.Creates access count) s bare simple h = new_stays access count (words_of types access) (home_of access s.masters) s h
+  frame_stays (frame.Stores x) s bare simple h = at_once h
+  frame_stays (frame.Targets c right) s bare simple h = target_stays (newest named s) c right (look s.heap (newest named s)) (popped s) simple h
+  frame_stays (frame.StoresIn o c) s bare simple h = store_stays o c (newest named s) (look s.heap o) (popped s) h
+  frame_stays (frame.TargetsRecord c record_type items) s bare simple h =
+      record_target_stays (newest named s) c (width_of types record_type) items (look s.heap (newest named s)) (popped s) simple h
+  frame_stays (frame.StoresRecord o c count) s bare simple h = store_record_stays o c count (look s.heap o) s h
+  frame_stays (frame.Assigns record_type) s bare simple h = absurd simple
+  frame_stays (frame.Receives c) s bare simple h = receive_stays (newest named s) c (look s.heap (newest named s)) (popped s) h
+  frame_stays (frame.FreesIn access c) s bare simple h = free_in_stays access (newest named s) c (look s.heap (newest named s)) (popped s) h
+  frame_stays (frame.Declares x) s bare simple h = at_once h
+  frame_stays (frame.DeclaresRecord x record_type) s bare simple h = absurd simple
+  frame_stays (frame.Treats v treatment tasks) s bare simple h = absurd simple
+  frame_stays (frame.Awaits v by done of part tasks) s bare simple h = absurd simple
+  frame_stays frame.Confines s bare simple h = absurd simple
+  frame_stays (frame.Resumes mode) s bare simple h = absurd simple
+  frame_stays frame.Writes s bare simple h = line_stays (reads_integer (newest named s)) (popped s) h
+  frame_stays (frame.Ends v) s bare simple h = end_stays v (look s.heap v) s h
+  frame_stays (frame.GivesBack v cause pool) s bare simple h = back_stays v cause pool (lent s.heap v) s h
+  frame_stays (frame.Clears x) s bare simple h = at_once h
+  frame_stays (frame.ClearsIn o c) s bare simple h = store_stays o c named.null (look s.heap o) s h
 
   -- A jump comes to handlers.
   handler_simple : (e : Exception) (hs : HandlersForm) → HandlersAreSimple first hs → (s : State) → BodyIsSimple first s.control → AllStaySimple first (landed named (handler_landing (handler_of e hs)) (Raising e) s)
@@ -444,8 +467,8 @@ module _ (types : List TypeDefinition) (bodies : List BodyForm) (first : ℕ) wh
   jump_stays m (frame.Stores x) s simple h = passing_stays m (frame.Stores x) s refl (in_each_mode (frame.Stores x) (λ e. refl) refl refl m) h
   jump_stays m (frame.Targets c right) s simple h = passing_stays m (frame.Targets c right) s refl (in_each_mode (frame.Targets c right) (λ e. refl) refl refl m) h
   jump_stays m (frame.StoresIn v c) s simple h = passing_stays m (frame.StoresIn v c) s refl (in_each_mode (frame.StoresIn v c) (λ e. refl) refl refl m) h
-  jump_stays m (frame.TargetsRecord c record_type items) s simple h = absurd simple
-  jump_stays m (frame.StoresRecord o c count) s simple h = absurd simple
+  jump_stays m (frame.TargetsRecord c record_type items) s simple h = passing_stays m (frame.TargetsRecord c record_type items) s refl (in_each_mode (frame.TargetsRecord c record_type items) (λ e. refl) refl refl m) h
+  jump_stays m (frame.StoresRecord o c count) s simple h = passing_stays m (frame.StoresRecord o c count) s refl (in_each_mode (frame.StoresRecord o c count) (λ e. refl) refl refl m) h
   jump_stays m (frame.Assigns record_type) s simple h = absurd simple
   jump_stays m (frame.Receives c) s simple h = passing_stays m (frame.Receives c) s refl (in_each_mode (frame.Receives c) (λ e. refl) refl refl m) h
   jump_stays m (frame.FreesIn access c) s simple h = passing_stays m (frame.FreesIn access c) s refl (in_each_mode (frame.FreesIn access c) (λ e. refl) refl refl m) h
@@ -462,17 +485,17 @@ module _ (types : List TypeDefinition) (bodies : List BodyForm) (first : ℕ) wh
   jump_stays m (frame.ClearsIn v c) s simple h = passing_stays m (frame.ClearsIn v c) s refl (in_each_mode (frame.ClearsIn v c) (λ e. refl) refl refl m) h
 
   -- A step.
-  step_stays : (m : Mode) (k : List (Frame Value)) (s : State) → IsWithinBody first k → AllStaySimple first (next types bodies (record s { mode = m; control = k }))
+  step_stays : (m : Mode) (k : List (Frame Value)) (s : State) → IsWithinBody first k → FirstAssignsBare types m k → AllStaySimple first (next types bodies (record s { mode = m; control = k }))
   unfolding next
-  step_stays Running [] s h = tt
-  step_stays Running (f ∷ k) s h = frame_stays f (record s { mode = Running; control = k }) h.0 h.1
-  step_stays (Raising e) [] s h = tt
-  step_stays (Raising e) (f ∷ k) s h = jump_stays (Raising e) f (record s { mode = Raising e; control = k }) h.0 h.1
-  step_stays Exiting [] s h = tt
-  step_stays Exiting (f ∷ k) s h = jump_stays Exiting f (record s { mode = Exiting; control = k }) h.0 h.1
-  step_stays Returning [] s h = tt
-  step_stays Returning (f ∷ k) s h = jump_stays Returning f (record s { mode = Returning; control = k }) h.0 h.1
+  step_stays Running [] s h bare = tt
+  step_stays Running (f ∷ k) s h bare = frame_stays f (record s { mode = Running; control = k }) bare h.0 h.1
+  step_stays (Raising e) [] s h bare = tt
+  step_stays (Raising e) (f ∷ k) s h bare = jump_stays (Raising e) f (record s { mode = Raising e; control = k }) h.0 h.1
+  step_stays Exiting [] s h bare = tt
+  step_stays Exiting (f ∷ k) s h bare = jump_stays Exiting f (record s { mode = Exiting; control = k }) h.0 h.1
+  step_stays Returning [] s h bare = tt
+  step_stays Returning (f ∷ k) s h bare = jump_stays Returning f (record s { mode = Returning; control = k }) h.0 h.1
 
 -- The law.
 pub stay_simple : SimpleBodiesStaySimple
-stay_simple types bodies first s h = step_stays types bodies first s.mode s.control s h
+stay_simple types bodies first s h bare = step_stays types bodies first s.mode s.control s h bare

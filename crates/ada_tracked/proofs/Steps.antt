@@ -23,6 +23,7 @@ use Rattle.ada_tracked.proofs.Found.{running, idly, path_shown, copies_shown}
 use Rattle.ada_tracked.proofs.Evaluations.{expression_shown, null_test_shown, links_shown, unary_shown, binary_shown, items_shown, right_shown, new_shown}
 use Rattle.ada_tracked.proofs.Storing.{steps, put_seen, inside_places, seen_store, store_in_shown, target_shown}
 use Rattle.ada_tracked.proofs.Freeing.{receive_shown, free_in_shown, end_shown, back_shown, leave_shown}
+use Rattle.ada_tracked.proofs.Wholes.{record_target_shown, store_record_shown}
 use Rattle.ada_tracked.proofs.Statements.{decided_shown, repeats_shown, turned_shown, counts_shown, ranges_shown, exited_shown, line_shown, stmts_shown, declarations_shown}
 
 module _ (types : List TypeDefinition) (bodies : List BodyForm) (w : View) where
@@ -38,7 +39,7 @@ module _ (types : List TypeDefinition) (bodies : List BodyForm) (w : View) where
   unfolding next
   frame_shown (frame.Elaborates ds fs hs) k a rest s simple none p looks copies others =
       declarations_shown types bodies w (seen_state w (at (frame.Elaborates ds fs hs ∷ k) (running a rest s))) ds fs hs a rest (at k s) simple.0
-  frame_shown (frame.Does fs) k a rest s simple none p looks copies others = stmts_shown types bodies w fs k a rest s simple p looks.1 looks.0
+  frame_shown (frame.Does fs) k a rest s simple none p looks copies others = stmts_shown types bodies w fs k a rest s simple p looks.1 copies looks.0
   frame_shown (frame.Decides fs branches) k a rest s simple none p looks copies others =
       decided_shown types bodies w (seen_state w (at (frame.Decides fs branches ∷ k) (running a rest s))) fs branches (reads_boolean (first_or Null a.operands))
       (record a { operands = older a.operands }) rest (at k s)
@@ -108,8 +109,11 @@ module _ (types : List TypeDefinition) (bodies : List BodyForm) (w : View) where
       (sym (stored_frame (number_in w v c) v c (seen_state w (at k (running a rest s)))))
       (store_in_shown types bodies w (seen_state w (at (frame.StoresIn v c ∷ k) (running a rest s))) v c (first_or Null a.operands)
       (record a { operands = older a.operands }) rest (at k s) p looks.0)
-  frame_shown (frame.TargetsRecord c record_type items) k a rest s simple none p looks copies others = absurd simple
-  frame_shown (frame.StoresRecord o c count) k a rest s simple none p looks copies others = absurd simple
+  frame_shown (frame.TargetsRecord c record_type items) k a rest s simple none p looks copies others =
+      record_target_shown types bodies w (seen_state w (at (frame.TargetsRecord c record_type items ∷ k) (running a rest s))) (first_or Null a.operands) c
+      (width_of types record_type) items (record a { operands = older a.operands }) rest (at k s) p
+  frame_shown (frame.StoresRecord v c count) k a rest s simple none p looks copies others =
+      store_record_shown types bodies w (seen_state w (at (frame.StoresRecord v c count ∷ k) (running a rest s))) v c count a rest (at k s) copies p looks.0
   frame_shown (frame.Assigns record_type) k a rest s simple none p looks copies others = absurd simple
   frame_shown (frame.Receives c) k a rest s simple none p looks copies others =
       receive_shown types bodies w (seen_state w (at (frame.Receives c ∷ k) (running a rest s))) (first_or Null a.operands) c

@@ -58,6 +58,17 @@ pub record CopiesUntracked (types : List TypeDefinition) (bodies : List BodyForm
   pub follows : next types bodies s ≡ moves (Followed (Names w.object)) after
   pub follows_too : next types bodies t ≡ moves (Followed (Names w.object)) stands
 
+-- A body stores a record in the object itself, in which a component that is tracked names another object: both runs follow the object, and another component
+-- gets a value.
+pub record StoresBeside (types : List TypeDefinition) (bodies : List BodyForm) (w : View) (s t after stands : State) : Type 0 where
+  pub before : IsMet types bodies w s t
+  pub behind : IsMet types bodies w after stands
+  pub stored : (first : ℕ) × (count : ℕ) × (k : List (Frame Value)) × (s.control ≡ frame.StoresRecord (Names w.object) first count ∷ k) × (0 < count)
+  pub tracked : (c : ℕ) × (o : Id) × (is_tracked_at w c ≡ true) × (component_in (object_at s.heap w.object) c ≡ Some (Names o))
+  pub changes : (c : ℕ) × (component_in (object_at s.heap w.object) c ≡ component_in (object_at after.heap w.object) c → ⊥)
+  pub follows : next types bodies s ≡ moves (Followed (Names w.object)) after
+  pub follows_too : next types bodies t ≡ moves (Followed (Names w.object)) stands
+
 -- So it is somewhere.
 abbrev pub PremisesAreMet : Type 0
 PremisesAreMet =
@@ -67,3 +78,5 @@ PremisesAreMet =
     × AssignsTracked types bodies w s t between after stands)
     × ((types : List TypeDefinition) × (bodies : List BodyForm) × (w : View) × (s : State) × (t : State) × (after : State) × (stands : State)
     × CopiesUntracked types bodies w s t after stands)
+    × ((types : List TypeDefinition) × (bodies : List BodyForm) × (w : View) × (s : State) × (t : State) × (after : State) × (stands : State)
+    × StoresBeside types bodies w s t after stands)

@@ -1,5 +1,5 @@
 -- The forms of a body as they are judged: each path that begins with a tracked component begins with what that holds, and so does the way to a record that is an
--- item. Records that are assigned to, calls and their actual parameters stay as they are.
+-- item or is assigned to. Calls and their actual parameters stay as they are.
 
 use Rattle.std.specs.Prelude.{List, [], ◌∷◌, Option, Some, None}
 use Rattle.ada_program.specs.Form.{RecordPathForm, ExpressionForm, integer, boolean, reads, is_null, applied_to, chained, LinksForm, no_more_links, a_link, ItemForm, null_item, item_of_path, item_of_value, item_of_record, RightForm, nothing, value_of, allocates, allocates_default, computes, DeclarationForm, creates_pool, collects, declares, declares_record, StmtForm, skips, assigns, assigns_record, frees, gets, writes, writes_text, chooses, repeats, counts, exits, calls, returns, raises, encloses, StmtsForm, no_stmts, a_stmt, BranchesForm, otherwise, a_branch, HandlersForm, no_handlers, a_handler}
@@ -25,7 +25,7 @@ abbrev pub seen_condition : Tracks → Option ExpressionForm → Option Expressi
 seen_condition tracks None = None
 seen_condition tracks (Some e) = Some (seen_expression tracks e)
 
--- The way to a record that is copied (4.1).
+-- The way to a record that is copied or assigned to (4.1).
 abbrev pub seen_record : Tracks → RecordPathForm → RecordPathForm
 seen_record tracks p = record p { object = seen tracks p.object }
 
@@ -71,7 +71,7 @@ abbrev mutual
   pub seen_stmt : Tracks → StmtForm → StmtForm
   seen_stmt tracks skips = skips
   seen_stmt tracks (assigns target right) = assigns (seen tracks target) (seen_right tracks right)
-  seen_stmt tracks (assigns_record target items) = assigns_record target (seen_items tracks items)
+  seen_stmt tracks (assigns_record target items) = assigns_record (seen_record tracks target) (seen_items tracks items)
   seen_stmt tracks (frees access path) = frees access (seen tracks path)
   seen_stmt tracks (gets target) = gets (seen tracks target)
   seen_stmt tracks (writes e) = writes (seen_expression tracks e)

@@ -63,8 +63,8 @@ Shown types bodies w t (asks request answered) n =
     (answers : Bool → State) × (n ≡ asks request answers) × ((granted : Bool) → Seen types bodies w (answered granted) (answers granted))
 Shown types bodies w t (picks count taken) n = ⊥
 
--- In each step of a body that looks at the object by the formal parameter alone, and copies no tracked component, what stands for the real state stands for it
--- afterwards, and ends as it does.
+-- In each step of a body that looks at the object by the formal parameter alone, copies no tracked component with a record and stores none so, and assigns no
+-- record with controlled parts, what stands for the real state stands for it afterwards, and ends as it does.
 abbrev pub TrackedComponentsRunAsVariables : Type 0
 TrackedComponentsRunAsVariables =
     (types : List TypeDefinition) (bodies : List BodyForm) (w : View) (s t : State) → Seen types bodies w s t → IsWatched w (places s) s.heap

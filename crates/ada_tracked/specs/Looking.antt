@@ -1,9 +1,9 @@
--- What the next step of a body looks at: at the object that is watched only where a path begins with the formal parameter, or where a record is copied that the
--- formal parameter is or has in it. Access values that name it may be read, moved, stored and compared with null; the body follows none of them, and frees none.
+-- What the next step of a body looks at: at the object that is watched only where a path begins with the formal parameter, or where a record is copied, or
+-- assigned to, that the formal parameter is or has in it. Access values that name it may be read, moved, stored and compared with null; the body follows none of them, and frees none.
 
 use Rattle.std.specs.Prelude.{◌≡◌, ℕ, zero, suc, Bool, true, false, List, [], ◌∷◌, Some}
 use Rattle.std.specs.List.{slice_get}
-use Rattle.ada_program.specs.Form.{PathForm, ExpressionForm, reads, is_null, ItemForm, item_of_path, item_of_record, RightForm, value_of, assigns, frees, gets, StmtsForm, a_stmt}
+use Rattle.ada_program.specs.Form.{PathForm, ExpressionForm, reads, is_null, ItemForm, item_of_path, item_of_record, RightForm, value_of, assigns, assigns_record, frees, gets, StmtsForm, a_stmt}
 use Rattle.ada_meaning.specs.declared.state.Id.{Id}
 use Rattle.ada_meaning.specs.declared.state.Mode.{Mode}
 use Rattle.ada_meaning.specs.declared.state.Mode.TheVariants.{Running}
@@ -76,6 +76,7 @@ module _ (o : Id) (s : State) where
   -- What the first of some statements looks at as it begins (5.1).
   abbrev pub StatementsLookElsewhere : StmtsForm → Type 0
   StatementsLookElsewhere (a_stmt (assigns target right) fs) = HolderIsElsewhere o s.heap target.root target.selectors (held named s target.root)
+  StatementsLookElsewhere (a_stmt (assigns_record target items) fs) = PathLooksElsewhere target.object
   StatementsLookElsewhere (a_stmt (frees access path) fs) = FreedIsElsewhere o s.heap path.root path.selectors (held named s path.root)
   StatementsLookElsewhere (a_stmt (gets target) fs) = HolderIsElsewhere o s.heap target.root target.selectors (held named s target.root)
   StatementsLookElsewhere fs = Unit {0}

@@ -1,5 +1,6 @@
--- Of which bodies the law speaks: they call nothing, neither declare, assign nor pass records as wholes, and copy them only as items of new objects. Their
--- variables have numbers below `first`, and 0 is the formal parameter, which is named alone only where a record is copied that lies in it.
+-- Of which bodies the law speaks: they call nothing, neither declare nor pass records as wholes, and copy them only as items of new objects or of records that
+-- they assign. Their variables have numbers below `first`, and 0 is the formal parameter, which is named alone only where a record is copied, or assigned to, that
+-- lies in it.
 
 use Rattle.std.specs.Prelude.{ℕ, ◌<◌, List, [], ◌∷◌, Option, Some, None}
 use Rattle.ada_program.specs.Form.{PathForm, ExpressionForm, integer, boolean, reads, is_null, applied_to, chained, LinksForm, no_more_links, a_link, ItemForm, null_item, item_of_path, item_of_value, item_of_record, RightForm, nothing, value_of, allocates, allocates_default, computes, DeclarationForm, creates_pool, collects, declares, declares_record, StmtForm, skips, assigns, assigns_record, frees, gets, writes, writes_text, chooses, repeats, counts, exits, calls, returns, raises, encloses, StmtsForm, no_stmts, a_stmt, BranchesForm, otherwise, a_branch, HandlersForm, no_handlers, a_handler}
@@ -73,11 +74,11 @@ DeclarationsAreSimple first [] = Unit {0}
 DeclarationsAreSimple first (d ∷ ds) = DeclarationIsSimple first d × DeclarationsAreSimple first ds
 
 abbrev mutual
-  -- A statement that neither calls nor assigns a record as a whole.
+  -- A statement that calls nothing; a record that it assigns to as a whole may lie in any variable of the body, also in its formal parameter itself.
   pub StatementIsSimple : (first : ℕ) → StmtForm → Type 0
   StatementIsSimple first skips = Unit {0}
   StatementIsSimple first (assigns target right) = PathIsSimple first target × RightIsSimple first right
-  StatementIsSimple first (assigns_record target items) = ⊥
+  StatementIsSimple first (assigns_record target items) = (target.object.root < first) × ItemsAreSimple first items
   StatementIsSimple first (frees access path) = PathIsSimple first path
   StatementIsSimple first (gets target) = PathIsSimple first target
   StatementIsSimple first (writes e) = ExpressionIsSimple first e
@@ -139,8 +140,8 @@ FrameIsSimple first (frame.Creates access count) = Unit {0}
 FrameIsSimple first (frame.Stores x) = IsVariable first x
 FrameIsSimple first (frame.Targets c right) = RightIsSimple first right
 FrameIsSimple first (frame.StoresIn o c) = Unit {0}
-FrameIsSimple first (frame.TargetsRecord c t items) = ⊥
-FrameIsSimple first (frame.StoresRecord o c count) = ⊥
+FrameIsSimple first (frame.TargetsRecord c t items) = ItemsAreSimple first items
+FrameIsSimple first (frame.StoresRecord o c count) = Unit {0}
 FrameIsSimple first (frame.Assigns t) = ⊥
 FrameIsSimple first (frame.Receives c) = Unit {0}
 FrameIsSimple first (frame.FreesIn access c) = Unit {0}

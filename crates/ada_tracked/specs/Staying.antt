@@ -10,6 +10,7 @@ use Rattle.ada_meaning.specs.Frame as frame
 use Rattle.ada_meaning.specs.Step.{halts, moves, tells, asks, picks}
 use Rattle.ada_meaning.specs.Named.{State, Next, next}
 use Rattle.ada_tracked.specs.Simple.{FrameIsSimple}
+use Rattle.ada_tracked.specs.Copying.{AssignsBare}
 
 -- Something holds, if the body does not end there.
 abbrev pub UnlessItEnds : (ends : Bool) → Type 0 → Type 0
@@ -39,8 +40,8 @@ AllStaySimple first (tells request e s) = StaysSimple first s.control
 AllStaySimple first (asks request answers) = (granted : Bool) → StaysSimple first (answers granted).control
 AllStaySimple first (picks count taking) = (i : ℕ) → StaysSimple first (taking i).control
 
--- Each step of such a body leaves it so.
+-- Each step of such a body leaves it so that assigns no record with controlled parts.
 abbrev pub SimpleBodiesStaySimple : Type 0
 SimpleBodiesStaySimple =
     (types : List TypeDefinition) (bodies : List BodyForm) (first : ℕ) (s : State) → IsWithinBody first s.control
-    → AllStaySimple first (next types bodies s)
+    → AssignsBare types s → AllStaySimple first (next types bodies s)
