@@ -1,7 +1,7 @@
--- Where the body of an operation assigns to a record in another variable than its formal parameter, no operation is awaited of the object in which that lies
--- (3.3.1, 5.2, 7.6): the body declares it.
+-- Where the body of an operation, or one that is called, assigns to a record in another variable than its formal parameters, no operation is awaited of the object in
+-- which that lies (3.3.1, 5.2, 7.6): the body declares it.
 
-use Rattle.std.proofs.Common.{◌≡◌, ℕ, ℤ, Bool, true, false, List, [], ◌∷◌, Option, Some, None, refl, sym, ap, ◌∙◌, subst}
+use Rattle.std.proofs.Common.{◌≡◌, ℕ, ℤ, Bool, true, false, ◌||◌, List, [], ◌∷◌, Option, Some, None, refl, sym, ap, ◌∙◌, subst}
 use Rattle.std.specs.List.{slice_get}
 use Rattle.ada_program.specs.declared.program.ComponentKind.{ComponentKind}
 use Rattle.ada_program.specs.declared.program.Program.{Program}
@@ -25,28 +25,19 @@ use Rattle.ada_typed.proofs.Bodies.{seen_as}
 use Rattle.ada_typed.proofs.Control.{Fits, Goes, TypedIn, running, on_jump, operated, out_of_operation}
 use Rattle.ada_typed.proofs.Freeing.{starts, starts_so}
 use Rattle.ada_typed.proofs.Operators.{and_left}
-use Rattle.ada_formals.specs.Formals as formal
 use Rattle.ada_formals.proofs.Standing.{ends_operation}
 use Rattle.ada_formals.proofs.Runs.{last_keeps}
-use Rattle.ada_declared.specs.Declared.{IsRecordOf, IsRecordVariable, DeclaresApart, OperationDeclares, OperationsDeclare}
+use Rattle.ada_declared.specs.Declared.{HasBody, IsRecordOf, IsRecordVariable, DeclaresApart, OperationsDeclare, formals_given}
 use Rattle.ada_declared.proofs.Runs.{declared_objects_stand_apart}
-use Rattle.ada_assigned.proofs.Keeping.{behind_body, IsBeside, DeclaresBeside}
-use Rattle.ada_assigned.proofs.Finalizing.{formal_behind}
+use Rattle.ada_assigned.proofs.Keeping.{behind_body, given_behind, runs_operation, IsBeside, DeclaresBeside}
 
--- What the running body's records stand apart from, where these activations are there.
+-- What the running body's records stand apart from, where these activations are there, and an operation runs.
 declared_here : (bodies : List BodyForm) (k : List (Frame Value)) (acts : List (Activation Value)) → OperationsDeclare bodies k acts
-    → OperationDeclares bodies (procedure_of acts) (places_of acts) (behind_body k)
-declared_here bodies [] acts h = tt
-declared_here bodies (frame.Returns actuals references ∷ k) acts h = h.0
-declared_here bodies (f ∷ k) acts h = declared_here bodies k acts h
-
--- Where an operation is awaited.
-awaited_apart : (bodies : List BodyForm) (procedure : Option ℕ) (places : List Value) (j : List (Frame Value)) → ends_operation j ≡ true
-    → OperationDeclares bodies procedure places j → DeclaresApart bodies procedure places j
-awaited_apart bodies procedure places [] ends h = absurd (cc ends)
-awaited_apart bodies procedure places (frame.Awaits v by done of part tasks ∷ j) ends h = h
-awaited_apart bodies procedure places (frame.Confines ∷ j) ends h = h
-awaited_apart bodies procedure places (f ∷ j) ends h = absurd (cc ends)
+    → (ends_operation (behind_body k) || runs_operation (behind_body k)) ≡ true
+    → DeclaresApart bodies (formals_given (given_behind k) (behind_body k)) (procedure_of acts) (places_of acts) (behind_body k)
+declared_here bodies [] acts h runs = absurd (cc runs)
+declared_here bodies (frame.Returns actuals references ∷ k) acts h runs = h.0
+declared_here bodies (f ∷ k) acts h runs = declared_here bodies k acts h runs
 
 -- What a path of a record begins with, if it says so, is a record variable.
 record_root :
@@ -75,8 +66,8 @@ module _ (own : ProgramForm) (s : State) (q : RecordPathForm) (k : List (Frame V
       let never : Raising e ≡ Running = sym jumps.jumps ∙ runs in
       absurd (cc never)
 
-  root_is : IsBeside q → TypedIn own s → (object : TypeNo) × (variable_kind own.variables q.object.root ≡ Some (variable.Record object))
-  root_is other typed =
+  root_is : (formals : ℕ) → IsBeside formals q → TypedIn own s → (object : TypeNo) × (variable_kind own.variables q.object.root ≡ Some (variable.Record object))
+  root_is formals other typed =
       let leads_to = access_of (path_kind own.types own.variables q.object) in
       let kind = variable_kind own.variables q.object.root in
       let ks = record_components own.types q.record_type in
@@ -93,27 +84,21 @@ module _ (program : Program) (well : IsWellFormed (program_form program)) where
   p = program_form program
 
   -- So it is one of its body.
-  variable_of : (procedure : Option ℕ) (x : ℕ) → formal.IsRecordFormal (body_forms program) procedure 0
+  variable_of : (procedure : Option ℕ) (x : ℕ) → HasBody (body_forms program) procedure
       → (object : TypeNo) × (variable_kind (seen_in procedure p).variables x ≡ Some (variable.Record object)) → IsRecordVariable (body_forms program) procedure x
-  variable_of None x operates held = operates
-  variable_of (Some procedure) x operates held = by (slice_get (body_forms program) procedure) refl operates
-    where
-      by : (found : Option BodyForm) → slice_get (body_forms program) procedure ≡ found → formal.IsRecordOf found 0 → IsRecordOf (slice_get (body_forms program) procedure) x
-      by None at operates' = absurd operates'
-      by (Some b) at operates' =
-          let seen = ap (λ (own : ProgramForm). variable_kind own.variables x) (seen_as p procedure b at) in
-          subst (λ (o : Option BodyForm). IsRecordOf o x) (sym at) (held.0, sym seen ∙ held.1)
+  variable_of None x has held = absurd has
+  variable_of (Some procedure) x (b, at) held =
+      let seen = ap (λ (own : ProgramForm). variable_kind own.variables x) (seen_as p procedure b at) in
+      subst (λ (o : Option BodyForm). IsRecordOf o x) (sym at) (held.0, sym seen ∙ held.1)
 
   pub declares_beside : (input : List ℤ) (events : List Event) (s : State) → Run program (first_state program input) events s → s.mode ≡ Running
       → DeclaresBeside program.types.items s.control s.activations
-  declares_beside input events s run on target outer v is ends other holds =
+  declares_beside input events s run on target outer v is runs other holds =
       let keeps = last_keeps program well input events s run in
       let bodies = body_forms program in
       let acts = s.activations in
-      let behind = ap behind_body is in
-      let operates =
-      formal_behind program.types.items bodies s.heap s.control (procedure_of acts) (places_of acts) (older acts) keeps.stands (ap ends_operation behind ∙ ends) in
-      let there = subst (λ (j : List (Frame Value)). OperationDeclares bodies (procedure_of acts) (places_of acts) j) behind
-      (declared_here bodies s.control acts (declared_objects_stand_apart program well input events s run)) in
-      awaited_apart bodies (procedure_of acts) (places_of acts) (behind_body outer) ends there target.object.root v other.beside
-      (variable_of (procedure_of acts) target.object.root operates (root_is (seen_now p s) s target outer on is other keeps.typed.inside)) holds
+      let there = declared_here bodies (frame.Refers target ∷ outer) acts
+      (subst (λ (k : List (Frame Value)). OperationsDeclare bodies k acts) is (declared_objects_stand_apart program well input events s run)) runs in
+      there.1 target.object.root v other.beside
+      (variable_of (procedure_of acts) target.object.root there.0
+      (root_is (seen_now p s) s target outer on is (formals_given (given_behind outer) (behind_body outer)) other keeps.typed.inside)) holds

@@ -112,7 +112,7 @@ well_formed = record {
   bodies_fit = refl;
 }
 
-assigns_so : operations_assign_inside (program_form program) (λ t. true) ≡ true
+assigns_so : operations_assign_inside (program_form program) (λ t. true) (λ procedure. false) ≡ true
 unfolding expression_form stmt_form
 assigns_so = refl
 

@@ -60,7 +60,7 @@ well_formed = record {
   bodies_fit = refl;
 }
 
-assigns_so : operations_assign_inside (program_form program) (λ t. false) ≡ true
+assigns_so : operations_assign_inside (program_form program) (λ t. false) (λ procedure. false) ≡ true
 unfolding expression_form stmt_form
 assigns_so = refl
 

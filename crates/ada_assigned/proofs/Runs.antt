@@ -1,7 +1,8 @@
 -- So it is in each state of a run; and where an operation of an object runs alone, what its body assigns to has its values (7.6.1).
 
-use Rattle.std.proofs.Common.{◌≡◌, ℕ, ℤ, ◌≤◌, Bool, true, false, List, [], ◌∷◌, refl, sym, ap, ◌∙◌, subst, arith, inl, inr}
-use Rattle.std.specs.List.{Contains}
+use Rattle.std.proofs.Common.{◌≡◌, ℕ, ℤ, ◌≤◌, Bool, true, false, ◌&&◌, ◌||◌, List, [], ◌∷◌, refl, sym, ap, ◌∙◌, subst, arith, ◌⊎◌, inl, inr}
+use Rattle.std.specs.List.{Contains, slice_get}
+use Rattle.std.proofs.lemmas.Bool.{and_from, and_parts, or_parts}
 use Rattle.ada_program.specs.declared.program.Program.{Program}
 use Rattle.ada_program.specs.declared.program.TypeDefinition.{TypeDefinition}
 use Rattle.ada_program.specs.Controlled.{shapes_of}
@@ -37,11 +38,11 @@ use Rattle.ada_finalized.proofs.Stacks.{Acts, Control, code, guard, finalization
 use Rattle.ada_finalized.proofs.Invariant.{Finding, Passing, seeks as seeks_record, follows, reaches, assigns, passes_assigns, passes_refers, passes_in, AssignsThen, Stands as StandsOver, runs, finding, passing, ends_operation as ends_guard, beginning, ending, leaving, storing}
 use Rattle.ada_typed.proofs.Kept.{Each}
 use Rattle.ada_formals.proofs.Standing.{ends_operation}
-use Rattle.ada_assigned.specs.Law.{RunsAlone, operations_assign_inside, is_of_operation, waits_first, AssignmentsInsideStand, AssignmentsBesideRunAlone}
-use Rattle.ada_assigned.proofs.Keeping.{behind_body, Assignable, LiesSafely, CopiesFor, Keeps, any_body}
+use Rattle.ada_assigned.specs.Law.{CalledAssignBeside, CalledAssignmentsRunAlone, RunsAlone, operations_assign_inside, is_of_operation, waits_first, AssignmentsInsideStand, AssignmentsBesideRunAlone}
+use Rattle.ada_assigned.proofs.Keeping.{Told, behind_body, runs_operation, assigns_called, ApartBeside, LiesSafely, CopiesFor, Keeps}
 use Rattle.ada_assigned.proofs.Seeking.{Operated, Sought, target_next, source_next, follows as follows_path, reaches as reaches_record, both_known, Passes, by_assigns, by_refers, by_reference, Stands, keeps, seeks, fails}
 use Rattle.ada_assigned.proofs.Going.{next_stands}
-use Rattle.ada_assigned.proofs.Texts.{operations_assign}
+use Rattle.ada_assigned.proofs.Texts.{count_formals, operations_assign}
 use Rattle.ada_assigned.proofs.Finalizing.{ends_inside}
 use Rattle.ada_assigned.proofs.Declaring.{declares_beside}
 
@@ -69,28 +70,35 @@ and_then program s mid after (d ∷ events) choice e (there other next_one first
     let more = and_then program next_one mid after events choice e rest step in
     (d ∷ more.0, there other next_one first more.1)
 
-module _ (program : Program) (well : IsWellFormed (program_form program)) (within : ℕ → Bool) (inside : operations_assign_inside (program_form program) within ≡ true) (input : List ℤ) where
+module _ (program : Program) (well : IsWellFormed (program_form program)) (told : Told) (inside : operations_assign_inside (program_form program) told.within told.called ≡ true)
+    (beside : told.watched ≡ true → CalledAssignBeside (program_form program) told.called)
+    (counted : (procedure : ℕ) → told.formals procedure ≡ count_formals (slice_get (body_forms program) procedure)) (input : List ℤ) where
   step_stands :
       (events : List Event) (s after : State) (choice : Choice) (e : Event) → Run program (first_state program input) events s
-      → Stands program.types.items within s → Step program s choice e after → Stands program.types.items within after
+      → Stands program.types.items told s → Step program s choice e after → Stands program.types.items told after
   step_stands events s after choice e run h step =
-      led (Stands program.types.items within) (next program.types.items (body_forms program) s) choice e after
-      (next_stands program.types.items within (body_forms program) (operations_assign program well within inside) s
+      led (Stands program.types.items told) (next program.types.items (body_forms program) s) choice e after
+      (next_stands program.types.items told (body_forms program) (operations_assign program well told inside beside counted) s
       (operations_refer_to_their_parts program well input events s run) (ends_inside program well input events s run)
       (declares_beside program well input events s run) h) step
 
   run_stands :
-      (past events : List Event) (s last : State) → Run program (first_state program input) past s → Stands program.types.items within s → Run program s events last
-      → Stands program.types.items within last
+      (past events : List Event) (s last : State) → Run program (first_state program input) past s → Stands program.types.items told s → Run program s events last
+      → Stands program.types.items told last
   run_stands past _ s last run h here = h
   run_stands past (e ∷ events) s last run h (there choice mid step rest) =
       let more = and_then program (first_state program input) s mid past choice e run step in
       run_stands more.0 events mid last more.1 (step_stands past s mid choice e run h step) rest
 
-  pub last_stands : (events : List Event) (last : State) → Run program (first_state program input) events last → Stands program.types.items within last
+  pub last_stands : (events : List Event) (last : State) → Run program (first_state program input) events last → Stands program.types.items told last
   last_stands events last run =
       run_stands [] events (first_state program input) last here
-      (keeps (any_body (Assignable program.types.items within []) (λ target. tt) (main_body (program_form program)), tt)) run
+      (keeps (assigns_called program.types.items told 0 (main_body (program_form program)) [] refl (λ known. absurd (cc (and_parts told.watched false known).1)), tt)) run
+
+-- What is told of a program.
+abbrev told_of : Program → (within called : ℕ → Bool) → (watched : Bool) → Told
+told_of program within called watched =
+    record { within = within; called = called; formals = λ procedure. count_formals (slice_get (body_forms program) procedure); watched = watched }
 
 -- What is left of the treatment, and what stands behind it.
 module _ (types : List TypeDefinition) (s : State) (object : Value) (number first t : ℕ) (tasks : List Task) (k : List (Frame Value))
@@ -231,24 +239,24 @@ module _ (types : List TypeDefinition) (xs : Heap) (o : Value) (left : List Task
   code_in acts _ (operates k h) alone lies = guard_in (older acts) k h alone lies
 
 -- All that is left of the treatment is.
-module _ (types : List TypeDefinition) (within : ℕ → Bool) (s : State) (object : Value) (number first t : ℕ) (tasks : List Task) (k : List (Frame Value))
+module _ (types : List TypeDefinition) (told : Told) (s : State) (object : Value) (number first t : ℕ) (tasks : List Task) (k : List (Frame Value))
     (is : s.control ≡ frame.Treats object (ends (Assigning number)) tasks ∷ frame.Copies first t ∷ k) (alone : RunsAlone object k) where
   abbrev there_now : List (Frame Value)
   there_now = frame.Treats object (ends (Assigning number)) tasks ∷ frame.Copies first t ∷ k
 
-  by_sought : (ops : List Value) (c : Control) → c ≡ there_now → Sought types within ops c → Keeps types within c
+  by_sought : (ops : List Value) (c : Control) → c ≡ there_now → Sought types told ops c → Keeps types told c
   by_sought ops _ e (target_next p q fs j parts own h) = absurd (cc e)
   by_sought ops _ e (source_next q u fs j own h) = absurd (cc e)
   by_sought ops _ e (follows_path cs place u behind h) = absurd (cc e)
   by_sought ops _ e (reaches_record place u behind h) = absurd (cc e)
   by_sought ops _ e (both_known u fs j own h) = absurd (cc e)
 
-  by_passes : (c : Control) → c ≡ there_now → Passes types within c → Keeps types within c
+  by_passes : (c : Control) → c ≡ there_now → Passes types told c → Keeps types told c
   by_passes _ e (by_assigns u j h) = absurd (cc e)
   by_passes _ e (by_refers p j h) = absurd (cc e)
   by_passes _ e (by_reference place u j h) = absurd (cc e)
 
-  kept : Stands types within s → Keeps types within s.control
+  kept : Stands types told s → Keeps types told s.control
   kept (keeps h) = h
   kept (seeks on h) = by_sought _ s.control is h
   kept (fails e raising h) = by_passes s.control is h
@@ -280,16 +288,17 @@ module _ (types : List TypeDefinition) (within : ℕ → Bool) (s : State) (obje
       let le = c.less n in
       by_lists n c.o c.m c.to c.width f.1 f.2 f.3 c.acts c.later f.0 f.5 f.6 c.left f.4 c.object_is c.stored c.behind (omega (arith, some, le)) f.7 f.8
 
-  pub treats_inside : StandsOver types s.heap s → Stands types within s → TreatsInside (shapes_of types) object tasks (frame.Copies first t ∷ k)
+  pub treats_inside : StandsOver types s.heap s → Stands types told s → TreatsInside (shapes_of types) object tasks (frame.Copies first t ∷ k)
   treats_inside over h n has =
-      by_copies n (count_has n (parts_left (shapes_of types) tasks) has) (copying types s object number first t tasks k is over) (subst (Keeps types within) is (kept h)).1.0
+      by_copies n (count_has n (parts_left (shapes_of types) tasks) has) (copying types s object number first t tasks k is over) (subst (Keeps types told) is (kept h)).1.0
 
 pub assignments_stand : AssignmentsInsideStand
-assignments_stand program well within inside input events last run object number tasks first t k is alone halted =
+assignments_stand program well within called inside input events last run object number tasks first t k is alone halted =
     let types = program.types.items in
+    let told = told_of program within called false in
     inner_values_exist program input events last run object (ends (Assigning number)) tasks (frame.Copies first t ∷ k) is
-    (treats_inside types within last object number first t tasks k is alone (last_holds program input events last run).fits.stands
-    (last_stands program well within inside input events last run)) halted
+    (treats_inside types told last object number first t tasks k is alone (last_holds program input events last run).fits.stands
+    (last_stands program well told inside (λ watched. absurd (cc watched)) (λ procedure. refl) input events last run)) halted
 
 -- Where code comes next, and behind it no operation of an object runs, none does at all.
 module _ (types : List TypeDefinition) (xs : Heap) (v : Value) where
@@ -308,6 +317,24 @@ module _ (types : List TypeDefinition) (xs : Heap) (v : Value) where
   code_alone acts _ (comes_back actuals references k h) alone = alone
   code_alone acts _ (operates k h) alone = alone
 
+  -- So it is where none runs behind a body.
+  calm_still : (f : Frame Value) (k : Control) → Calm f → runs_operation (f ∷ k) ≡ false → runs_operation k ≡ false
+  calm_still (frame.Returns actuals references) k c still = absurd c
+  calm_still f k c still = still
+
+  guard_runs : (acts : Acts) (k : Control) → Stack types xs guard acts k → ends_operation k ≡ true
+  guard_runs acts _ (awaits w by done of part tasks k some p h) = refl
+  guard_runs acts _ (confines k some p h) = refl
+
+  none_runs : (acts : Acts) (k : Control) → Stack types xs code acts k → runs_operation k ≡ false → NoOperationRunsOn v k
+  none_runs acts _ nothing still = tt
+  none_runs acts _ (calm f k c h) still = calm_alone f k c (none_runs acts k h (calm_still f k c still))
+  none_runs acts _ (comes_back actuals references k h) still = none_runs (older acts) k h (or_parts (ends_operation k) (runs_operation k) still).1
+  none_runs acts _ (operates k h) still =
+      let runs = guard_runs (older acts) k h in
+      let ends = (or_parts (ends_operation k) (runs_operation k) still).0 in
+      absurd (cc (runs, ends))
+
 -- What waits behind the running body is an operation, where that is said.
 ends_first : (k : Control) → waits_first k ≡ true → ends_operation k ≡ true
 ends_first [] is = absurd (cc is)
@@ -320,27 +347,64 @@ ends_behind [] is = absurd (cc is)
 ends_behind (frame.Returns actuals references ∷ k) is = ends_first k is
 ends_behind (f ∷ k) is = ends_behind k is
 
+-- And where it is a call, none does.
+calls_first : (k : Control) → waits_first k ≡ false → ends_operation k ≡ false
+calls_first [] is = refl
+calls_first (frame.Awaits v by done of part tasks ∷ k) is = absurd (cc is)
+calls_first (frame.Confines ∷ k) is = absurd (cc is)
+calls_first (f ∷ k) is = refl
+
+calls_behind : (k : Control) → is_of_operation k ≡ false → ends_operation (behind_body k) ≡ false
+calls_behind [] is = refl
+calls_behind (frame.Returns actuals references ∷ k) is = calls_first k is
+calls_behind (f ∷ k) is = calls_behind k is
+
+-- Behind no body does one wait, where none waits for the running one, or behind that.
+still_behind : (k : Control) → ends_operation (behind_body k) ≡ false → runs_operation (behind_body k) ≡ false → runs_operation k ≡ false
+still_behind [] call still = refl
+still_behind (frame.Returns actuals references ∷ k) call still = cc (call, still)
+still_behind (f ∷ k) call still = still_behind k call still
+
 -- Where the records of an assignment have been found, no operation runs of the object in which the target lies, if none of its type is assigned to inside of a
--- formal parameter.
-module _ (types : List TypeDefinition) (within : ℕ → Bool) (s : State) (t : ℕ) (k : Control) (going : s.mode ≡ Running) (is : s.control ≡ frame.Assigns t ∷ k)
-    (own : is_of_operation k ≡ true) (none : within t ≡ false) (o : Id) (place : Place) (target : first_or Null (older (operands s)) ≡ Inside o place) where
+-- formal parameter, or the body is one that is called.
+module _ (types : List TypeDefinition) (told : Told) (s : State) (t : ℕ) (k : Control) (going : s.mode ≡ Running) (is : s.control ≡ frame.Assigns t ∷ k)
+    (none : is_of_operation k ≡ true → told.within t ≡ false) (watched : is_of_operation k ≡ false → told.watched ≡ true) (o : Id) (place : Place) (target : first_or Null (older (operands s)) ≡ Inside o place) where
   abbrev assigning : Control
   assigning = frame.Assigns t ∷ k
 
-  sought_alone : (c : Control) → c ≡ assigning → Sought types within (operands s) c → NoOperationRunsOn (Names o) (behind_body k)
+  -- None is of it that waits for the running body, or behind that; or none waits at all.
+  abbrev StandsAlone : Type 0
+  StandsAlone = NoOperationRunsOn (Names o) (behind_body k) ⊎ (runs_operation k ≡ false)
+
+  sought_alone : (c : Control) → c ≡ assigning → Sought types told (operands s) c → StandsAlone
   sought_alone _ e (target_next p q fs j parts own' h) = absurd (cc e)
   sought_alone _ e (source_next q u fs j own' h) = absurd (cc e)
   sought_alone _ e (follows_path cs at u behind h) = absurd (cc e)
   sought_alone _ e (reaches_record at u behind h) = absurd (cc e)
   sought_alone _ e (both_known u fs j found h) =
-      let same : u ≡ t = cc e in
-      let behind : frame.Does fs ∷ j ≡ k = cc e in
-      let apart : Operated types within (behind_body j) u (Inside o place) = subst (Operated types within (behind_body j) u) target found in
-      let ends = ap (λ (c : Control). ends_operation (behind_body c)) behind ∙ ends_behind k own in
-      subst (λ (c : Control). NoOperationRunsOn (Names o) (behind_body c)) behind (apart.1 ends (ap within same ∙ none))
+      by (is_of_operation k) refl
+      (subst (λ (c : Control). ApartBeside told (behind_body c) t (Names o)) behind
+      (subst (λ (n : ℕ). ApartBeside told (behind_body j) n (Names o)) same apart.1))
+    where
+      same : u ≡ t
+      same = cc e
 
-  found_alone : Stands types within s → NoOperationRunsOn (Names o) (behind_body k)
-  found_alone (keeps h) = absurd ((subst (Keeps types within) is h).0)
+      behind : frame.Does fs ∷ j ≡ k
+      behind = cc e
+
+      apart : Operated types told (behind_body j) u (Inside o place)
+      apart = subst (Operated types told (behind_body j) u) target found
+
+      by_run : (waiting : Bool) → runs_operation (behind_body k) ≡ waiting → is_of_operation k ≡ false → ApartBeside told (behind_body k) t (Names o) → StandsAlone
+      by_run true waits call stands = inl (stands.1 (calls_behind k call) (and_from told.watched (runs_operation (behind_body k)) (watched call) waits))
+      by_run false still call stands = inr (still_behind k (calls_behind k call) still)
+
+      by : (own : Bool) → is_of_operation k ≡ own → ApartBeside told (behind_body k) t (Names o) → StandsAlone
+      by true own stands = inl (stands.0 (ends_behind k own) (none own))
+      by false call stands = by_run (runs_operation (behind_body k)) refl call stands
+
+  found_alone : Stands types told s → StandsAlone
+  found_alone (keeps h) = absurd ((subst (Keeps types told) is h).0)
   found_alone (seeks on h) = sought_alone s.control is h
   found_alone (fails e raising h) = let never : Running ≡ Raising e = sym going ∙ raising in absurd (cc never)
 
@@ -374,11 +438,24 @@ module _ (types : List TypeDefinition) (within : ℕ → Bool) (s : State) (t : 
   code_behind (leaving i x cause pool j on e own' h at_i gone) = absurd (cc (sym is ∙ e))
   code_behind (storing i n to width left j on e h) = absurd (cc (sym is ∙ e))
 
-  pub runs_alone : Stands types within s → StandsOver types s.heap s → NoOperationRunsOn (Names o) k
-  runs_alone stands over = code_alone types s.heap (Names o) s.activations k (code_behind over) (found_alone stands)
+  pub runs_alone : Stands types told s → StandsOver types s.heap s → NoOperationRunsOn (Names o) k
+  runs_alone stands over = elim (found_alone stands) [
+    | inl apart ↦ code_alone types s.heap (Names o) s.activations k (code_behind over) apart
+    | inr still ↦ none_runs types s.heap (Names o) s.activations k (code_behind over) still
+  ]
 
 pub beside_run_alone : AssignmentsBesideRunAlone
-beside_run_alone program well within inside input events last run going t k is own none o place target =
+beside_run_alone program well within called inside input events last run going t k is own none o place target =
     let types = program.types.items in
-    runs_alone types within last t k going is own none o place target (last_stands program well within inside input events last run)
+    let told = told_of program within called false in
+    runs_alone types told last t k going is (λ own'. none) (λ call. absurd (cc (own, call))) o place target
+    (last_stands program well told inside (λ watched. absurd (cc watched)) (λ procedure. refl) input events last run)
+    (last_holds program input events last run).fits.stands
+
+pub called_run_alone : CalledAssignmentsRunAlone
+called_run_alone program well within called inside beside input events last run going t k is call o place target =
+    let types = program.types.items in
+    let told = told_of program within called true in
+    runs_alone types told last t k going is (λ own. absurd (cc (own, call))) (λ call'. refl) o place target
+    (last_stands program well told inside (λ watched. beside) (λ procedure. refl) input events last run)
     (last_holds program input events last run).fits.stands

@@ -22,7 +22,7 @@ use Rattle.ada_meaning.specs.State.{Activation}
 use Rattle.ada_meaning.specs.Step.{has_parts, record_tasks, first_or, older, operands, at, computed, popped, reading, component_next, follow_next, path_next, record_in, referred_next, refers_next, assigns_next}
 use Rattle.ada_meaning.specs.Named.{State, Next, named, look, refer, same}
 use Rattle.ada_typed.proofs.Kept.{Each}
-use Rattle.ada_assigned.proofs.Keeping.{behind_body, ApartBeside, Assignable, LiesSafely, Keeps}
+use Rattle.ada_assigned.proofs.Keeping.{Told, behind_body, given_behind, ApartBeside, Assignable, LiesSafely, Keeps}
 use Rattle.ada_assigned.proofs.Evaluations.{treating_keeps}
 
 -- Operands that come and go.
@@ -48,45 +48,45 @@ first_computed P v s none h = go s.activations
     go [] = none
     go (a ∷ suspended) = h
 
-module _ (types : List TypeDefinition) (within : ℕ → Bool) where
+module _ (types : List TypeDefinition) (told : Told) where
   -- A reference to a record of this type lies in the part that is operated on, or in another object: all that is to be adjusted there does. It lies in another
   -- one, if records of the type are assigned to inside of no formal parameter.
   abbrev pub Operated : (behind : List (Frame Value)) → (t : ℕ) → Value → Type 0
   Operated k t Null = Unit {0}
   Operated k t (Names o) = Unit {0}
   Operated k t (Scalar v) = Unit {0}
-  Operated k t (Inside o place) = LiesSafely types k (Names o) (record_tasks types t PartsFirst place.part) × ApartBeside within k t (Names o)
+  Operated k t (Inside o place) = LiesSafely types k (Names o) (record_tasks types t PartsFirst place.part) × ApartBeside told k t (Names o)
 
   -- What is left to do behind the frame that takes a value to a reference: the target is found so, or it was.
   pub data Reaches (v : Value) (pending : List Value) (place : Place) : List (Frame Value) → Type 0 where
-    to_target : (q : RecordPathForm) (t : ℕ) (fs : StmtsForm) (k : List (Frame Value)) → Operated (behind_body k) t (refer v place) → Keeps types within (frame.Does fs ∷ k)
+    to_target : (q : RecordPathForm) (t : ℕ) (fs : StmtsForm) (k : List (Frame Value)) → Operated (behind_body k) t (refer v place) → Keeps types told (frame.Does fs ∷ k)
         → Reaches v pending place (frame.Refers q ∷ frame.Assigns t ∷ frame.Does fs ∷ k)
-    to_source : (t : ℕ) (fs : StmtsForm) (k : List (Frame Value)) → Operated (behind_body k) t (first_or Null pending) → Keeps types within (frame.Does fs ∷ k)
+    to_source : (t : ℕ) (fs : StmtsForm) (k : List (Frame Value)) → Operated (behind_body k) t (first_or Null pending) → Keeps types told (frame.Does fs ∷ k)
         → Reaches v pending place (frame.Assigns t ∷ frame.Does fs ∷ k)
 
   -- With these operands.
   pub data Sought (pending : List Value) : List (Frame Value) → Type 0 where
     target_next :
-        (p q : RecordPathForm) (fs : StmtsForm) (k : List (Frame Value)) → has_parts types p.record_type ≡ true → Assignable types within (behind_body k) p
-        → Keeps types within (frame.Does fs ∷ k) → Sought pending (frame.Refers p ∷ frame.Refers q ∷ frame.Assigns p.record_type ∷ frame.Does fs ∷ k)
-    source_next : (q : RecordPathForm) (t : ℕ) (fs : StmtsForm) (k : List (Frame Value)) → Operated (behind_body k) t (first_or Null pending) → Keeps types within (frame.Does fs ∷ k)
+        (p q : RecordPathForm) (fs : StmtsForm) (k : List (Frame Value)) → has_parts types p.record_type ≡ true → (Assignable types told (given_behind k) (behind_body k)).assigned p
+        → Keeps types told (frame.Does fs ∷ k) → Sought pending (frame.Refers p ∷ frame.Refers q ∷ frame.Assigns p.record_type ∷ frame.Does fs ∷ k)
+    source_next : (q : RecordPathForm) (t : ℕ) (fs : StmtsForm) (k : List (Frame Value)) → Operated (behind_body k) t (first_or Null pending) → Keeps types told (frame.Does fs ∷ k)
         → Sought pending (frame.Refers q ∷ frame.Assigns t ∷ frame.Does fs ∷ k)
     follows : (cs : List ℕ) (place : Place) (u : ℕ) (behind : List (Frame Value)) → ((v : Value) → Reaches v (older pending) place behind)
         → Sought pending (frame.Follows cs ∷ frame.RefersIn place u ∷ behind)
     reaches : (place : Place) (u : ℕ) (behind : List (Frame Value)) → Reaches (first_or Null pending) (older pending) place behind
         → Sought pending (frame.RefersIn place u ∷ behind)
-    both_known : (t : ℕ) (fs : StmtsForm) (k : List (Frame Value)) → Operated (behind_body k) t (first_or Null (older pending)) → Keeps types within (frame.Does fs ∷ k)
+    both_known : (t : ℕ) (fs : StmtsForm) (k : List (Frame Value)) → Operated (behind_body k) t (first_or Null (older pending)) → Keeps types told (frame.Does fs ∷ k)
         → Sought pending (frame.Assigns t ∷ frame.Does fs ∷ k)
 
   -- An exception passes what is left of that.
   pub data Passes : List (Frame Value) → Type 0 where
-    by_assigns : (t : ℕ) (k : List (Frame Value)) → Keeps types within k → Passes (frame.Assigns t ∷ k)
+    by_assigns : (t : ℕ) (k : List (Frame Value)) → Keeps types told k → Passes (frame.Assigns t ∷ k)
     by_refers : (p : RecordPathForm) (k : List (Frame Value)) → Passes k → Passes (frame.Refers p ∷ k)
     by_reference : (place : Place) (u : ℕ) (k : List (Frame Value)) → Passes k → Passes (frame.RefersIn place u ∷ k)
 
   -- A state: no assignment has begun to find its records, or one does, or an exception comes out of that.
   pub data Stands (s : State) : Type 0 where
-    keeps : Keeps types within s.control → Stands s
+    keeps : Keeps types told s.control → Stands s
     seeks : s.mode ≡ Running → Sought (operands s) s.control → Stands s
     fails : (e : Exception) → s.mode ≡ Raising e → Passes s.control → Stands s
 
@@ -163,7 +163,7 @@ module _ (types : List TypeDefinition) (within : ℕ → Bool) where
 
   -- Both records are known.
   pub assigned_stands : (t : ℕ) (fs : StmtsForm) (k : List (Frame Value)) (target source : Value) (alike : Option Bool) (s : State) → same target source ≡ alike
-      → Operated (behind_body k) t target → Keeps types within (frame.Does fs ∷ k) → AllStand (assigns_next named types t target source alike (at (frame.Does fs ∷ k) s))
+      → Operated (behind_body k) t target → Keeps types told (frame.Does fs ∷ k) → AllStand (assigns_next named types t target source alike (at (frame.Does fs ∷ k) s))
   assigned_stands t fs k target source None s is own h = tt
   assigned_stands t fs k target source (Some true) s is own h = keeps h
   assigned_stands t fs k Null source (Some false) s is own h = absurd (cc)
@@ -172,7 +172,7 @@ module _ (types : List TypeDefinition) (within : ℕ → Bool) where
   assigned_stands t fs k (Inside o place) source (Some false) s is own h =
       let v = Names o in
       let left = record_tasks types t PartsFirst place.part in
-      keeps (treating_keeps types within v (frame.ends (Assigning s.next)) (record_tasks types t WholeFirst place.part) _ (
+      keeps (treating_keeps types told v (frame.ends (Assigning s.next)) (record_tasks types t WholeFirst place.part) _ (
         (v, s.next, place.component, width_of types t, left, fs, k, refl, own.0),
-        (tt, treating_keeps types within v (frame.begins (Adjustment s.next) []) left (frame.Does fs ∷ k) h),
+        (tt, treating_keeps types told v (frame.begins (Adjustment s.next) []) left (frame.Does fs ∷ k) h),
       ))

@@ -38,7 +38,7 @@ abbrev pub InitializeAssignsInside : Type 0
 InitializeAssignsInside =
     (program : Program) × (shapes_of program.types.items ≡ controlled_shapes) × (operations_of program.types.items 1 ≡ outer_operations)
     × (body_forms program ≡ assigning_initialize ∷ []) × (stmt_forms program ≡ object_stmts) × IsWellFormed (program_form program)
-    × (operations_assign_inside (program_form program) (λ t. true) ≡ true) × InSomeRun program (λ events last. AssignsToComponent last)
+    × (operations_assign_inside (program_form program) (λ t. true) (λ procedure. false) ≡ true) × InSomeRun program (λ events last. AssignsToComponent last)
 
 -- procedure Initialize (X : in out Outer) is Y : Inner; begin Y := X.C; end;
 abbrev pub copying_initialize : BodyForm
@@ -64,5 +64,5 @@ abbrev pub InitializeAssignsBeside : Type 0
 InitializeAssignsBeside =
     (program : Program) × (shapes_of program.types.items ≡ controlled_shapes) × (operations_of program.types.items 1 ≡ outer_operations)
     × (body_forms program ≡ copying_initialize ∷ []) × (stmt_forms program ≡ object_stmts) × IsWellFormed (program_form program)
-    × (operations_assign_inside (program_form program) (λ t. false) ≡ true) × InSomeRun program (λ events last. AssignsToDeclared last)
+    × (operations_assign_inside (program_form program) (λ t. false) (λ procedure. false) ≡ true) × InSomeRun program (λ events last. AssignsToDeclared last)
     × InSomeRun program (λ events last. FindsDeclared last)

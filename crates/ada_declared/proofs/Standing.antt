@@ -1,7 +1,7 @@
--- What is left to do writes to no variable that is a record, but where that is declared (3.3.1), and the records that an operation declares stand apart from what is
+-- What is left to do writes to no variable that is a record, but where that is declared (3.3.1), and the records that a body declares stand apart from what is
 -- left to do behind it: the invariant of this crate. And what goes on from one state to a later one.
 
-use Rattle.std.proofs.Common.{◌≡◌, ◌≢◌, ℕ, zero, suc, Bool, true, false, List, [], ◌∷◌, Option, Some, refl, sym, ap, ◌∙◌, subst}
+use Rattle.std.proofs.Common.{◌≡◌, ◌≢◌, ℕ, zero, suc, Bool, true, false, List, [], ◌∷◌, length, Option, Some, refl, sym, ap, ◌∙◌, subst}
 use Rattle.std.specs.List.{slice_get, slice_set}
 use Rattle.ada_program.specs.declared.program.TypeDefinition.{TypeDefinition}
 use Rattle.ada_program.specs.Form.{PathForm, ActualForm, in_value, in_null, in_access, in_record, in_out_path, in_out_access, in_out_component, in_out_record, StmtForm, skips, assigns, assigns_record, frees, gets, writes, writes_text, chooses, repeats, counts, exits, calls, returns, raises, encloses, StmtsForm, no_stmts, a_stmt, BranchesForm, otherwise, a_branch, HandlersForm, no_handlers, a_handler, DeclarationForm, creates_pool, collects, declares, declares_record}
@@ -16,7 +16,7 @@ use Rattle.ada_meaning.specs.State.{Activation}
 use Rattle.ada_meaning.specs.Step.{older, places_of, procedure_of, with_places, with_operands, treating, storing, copied_back}
 use Rattle.ada_meaning.specs.Named.{State, named}
 use Rattle.ada_finalized.specs.Law.{NoOperationRunsOn}
-use Rattle.ada_declared.specs.Declared.{IsRecordVariable, OperationDeclares, StandsApart}
+use Rattle.ada_declared.specs.Declared.{IsRecordVariable, DeclaresApart, StandsApart, formals_given}
 
 -- What text writes to, where P holds of each variable that may be written to.
 
@@ -136,7 +136,7 @@ module _ (types : List TypeDefinition) (bodies : List BodyForm) where
   abbrev pub Stands : List (Frame Value) → (procedure : Option ℕ) → (places : List Value) → (suspended : List (Activation Value)) → Type 0
   Stands [] procedure places suspended = Unit {0}
   Stands (frame.Returns actuals references ∷ k) procedure places suspended =
-      OperationDeclares bodies procedure places k × ActualsSpare (IsOther bodies (procedure_of suspended)) actuals
+      DeclaresApart bodies (formals_given (length actuals) k) procedure places k × ActualsSpare (IsOther bodies (procedure_of suspended)) actuals
       × Stands k (procedure_of suspended) (places_of suspended) (older suspended)
   Stands (f ∷ k) procedure places suspended = FrameSpares (IsOther bodies procedure) f k × Stands k procedure places suspended
 
@@ -225,14 +225,11 @@ module _ (bodies : List BodyForm) where
 
 -- What is left to do stands on then.
 module _ (types : List TypeDefinition) (bodies : List BodyForm) where
-  operation_on :
-      (procedure : Option ℕ) (before after : List Value) (k : List (Frame Value))
+  declares_on :
+      (formals : ℕ) (procedure : Option ℕ) (before after : List Value) (k : List (Frame Value))
       → ((x : ℕ) → IsRecordVariable bodies procedure x → slice_get after x ≡ slice_get before x)
-      → OperationDeclares bodies procedure before k → OperationDeclares bodies procedure after k
-  operation_on procedure before after [] same h = h
-  operation_on procedure before after (frame.Awaits v by done of part tasks ∷ k) same h = λ x u some is at. h x u some is (sym (same x is) ∙ at)
-  operation_on procedure before after (frame.Confines ∷ k) same h = λ x u some is at. h x u some is (sym (same x is) ∙ at)
-  operation_on procedure before after (f ∷ k) same h = h
+      → DeclaresApart bodies formals procedure before k → DeclaresApart bodies formals procedure after k
+  declares_on formals procedure before after k same h = (h.0, λ x u some is at. h.1 x u some is (sym (same x is) ∙ at))
 
   places_on :
       (k : List (Frame Value)) (procedure : Option ℕ) (before after : List Value) (suspended : List (Activation Value))
@@ -240,7 +237,7 @@ module _ (types : List TypeDefinition) (bodies : List BodyForm) where
       → Stands types bodies k procedure before suspended → Stands types bodies k procedure after suspended
   places_on [] procedure before after suspended same h = tt
   places_on (frame.Returns actuals references ∷ k) procedure before after suspended same h =
-      (operation_on procedure before after k same h.0, h.1, h.2)
+      (declares_on (formals_given (length actuals) k) procedure before after k same h.0, h.1, h.2)
   places_on (f ∷ k) procedure before after suspended same h = (h.0, places_on k procedure before after suspended same h.1)
 
   pub stands_on : (k : List (Frame Value)) (w later : List (Activation Value)) → GoesOn bodies w later → StandsBy types bodies k w → StandsBy types bodies k later
@@ -253,21 +250,17 @@ module _ (types : List TypeDefinition) (bodies : List BodyForm) where
 
   -- A variable gets the name of a new object (3.3.1): no operation of that runs.
   module _ (o : Id) where
-    operation_new :
-        (procedure : Option ℕ) (places : List Value) (x : ℕ) (k : List (Frame Value)) → NoOperationRunsOn (Names o) k
-        → OperationDeclares bodies procedure places k → OperationDeclares bodies procedure (slice_set places x (Names o)) k
-    operation_new procedure places x [] none h = h
-    operation_new procedure places x (frame.Awaits v by done of part tasks ∷ k) none h =
-        λ y u some is. set_either (λ (w : Value). StandsApart w (frame.Awaits v by done of part tasks ∷ k)) places x y (Names o) u none (h y u some is)
-    operation_new procedure places x (frame.Confines ∷ k) none h =
-        λ y u some is. set_either (λ (w : Value). StandsApart w (frame.Confines ∷ k)) places x y (Names o) u none (h y u some is)
-    operation_new procedure places x (f ∷ k) none h = h
+    declares_new :
+        (formals : ℕ) (procedure : Option ℕ) (places : List Value) (x : ℕ) (k : List (Frame Value)) → NoOperationRunsOn (Names o) k
+        → DeclaresApart bodies formals procedure places k → DeclaresApart bodies formals procedure (slice_set places x (Names o)) k
+    declares_new formals procedure places x k none h =
+        (h.0, λ y u some is. set_either (λ (w : Value). StandsApart w k) places x y (Names o) u none (h.1 y u some is))
 
     pub stands_new :
         (k : List (Frame Value)) (procedure : Option ℕ) (places : List Value) (suspended : List (Activation Value)) (x : ℕ) → NoOperationRunsOn (Names o) k
         → Stands types bodies k procedure places suspended → Stands types bodies k procedure (slice_set places x (Names o)) suspended
     stands_new [] procedure places suspended x none h = tt
-    stands_new (frame.Returns actuals references ∷ k) procedure places suspended x none h = (operation_new procedure places x k none h.0, h.1, h.2)
+    stands_new (frame.Returns actuals references ∷ k) procedure places suspended x none h = (declares_new (formals_given (length actuals) k) procedure places x k none h.0, h.1, h.2)
     stands_new (frame.Awaits v by done of part tasks ∷ k) procedure places suspended x none h = (h.0, stands_new k procedure places suspended x none.1 h.1)
     stands_new (frame.Confines ∷ k) procedure places suspended x none h = (h.0, stands_new k procedure places suspended x none.1 h.1)
     stands_new (f ∷ k) procedure places suspended x none h = (h.0, stands_new k procedure places suspended x none h.1)
@@ -285,9 +278,16 @@ module _ (types : List TypeDefinition) (bodies : List BodyForm) where
     storing_stands [] k h = h
     storing_stands (r ∷ rs) k h = (tt, storing_stands rs k h)
 
-    -- No operation waits for a call.
-    pub none_operates : (k : List (Frame Value)) → ends_operation k ≡ false → OperationDeclares bodies procedure places k
-    none_operates [] call = tt
-    none_operates (frame.Awaits v by done of part tasks ∷ k) call = absurd (cc)
-    none_operates (frame.Confines ∷ k) call = absurd (cc)
-    none_operates (f ∷ k) call = tt
+-- An operation has one formal parameter.
+pub given_one : (given : ℕ) (k : List (Frame Value)) → ends_operation k ≡ true → formals_given given k ≡ 1
+given_one given [] operates = absurd (cc operates)
+given_one given (frame.Awaits v by done of part tasks ∷ k) operates = refl
+given_one given (frame.Confines ∷ k) operates = refl
+given_one given (f ∷ k) operates = absurd (cc operates)
+
+-- No operation waits for a call: that gives an actual parameter for each formal one.
+pub given_each : (given : ℕ) (k : List (Frame Value)) → ends_operation k ≡ false → formals_given given k ≡ given
+given_each given [] call = refl
+given_each given (frame.Awaits v by done of part tasks ∷ k) call = absurd (cc)
+given_each given (frame.Confines ∷ k) call = absurd (cc)
+given_each given (f ∷ k) call = refl

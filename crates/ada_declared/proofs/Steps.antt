@@ -1,9 +1,9 @@
 -- Each step: what is left to do stands on, and variables that are records hold what they held, or the name of a new object.
 
-use Rattle.ada_declared.proofs.Standing.{ActualsSpare, StmtSpares, StmtsSpare, BranchesSpare, HandlersSpare, ends_operation, IsOther, FrameSpares, StandsBy, StandsIn, goes_same, goes_operands, goes_put, goes_back, stands_on, stands_new, treating_stands, storing_stands, none_operates}
+use Rattle.ada_declared.proofs.Standing.{ActualsSpare, StmtSpares, StmtsSpare, BranchesSpare, HandlersSpare, ends_operation, IsOther, FrameSpares, StandsBy, StandsIn, goes_same, goes_operands, goes_put, goes_back, stands_on, stands_new, treating_stands, storing_stands, given_each}
 use Rattle.ada_declared.proofs.Evaluations.{LeftBy, Holds, AllHold, on_operands, less, path_holds, holder_holds, record_holder_holds, expression_holds, null_test_holds, links_hold, outcome_holds, items_hold, copies_hold, record_target_holds, store_record_holds, record_assign_holds, assigns_hold, new_holds, refers_hold, open_holds, opens_hold, right_holds, free_holds, free_in_holds, end_holds, back_holds}
-use Rattle.ada_declared.proofs.Treatments.{BodiesSpare, AllCome, awaited_comes, treats_come, leave_holds}
-use Rattle.std.proofs.Common.{◌≡◌, ℕ, Bool, true, false, if◌then◌else◌, List, [], ◌∷◌, ◌++◌, length, map, Option, Some, None, refl, sym, subst}
+use Rattle.ada_declared.proofs.Treatments.{BodiesSpare, AllCome, none_declared, awaited_comes, treats_come, leave_holds}
+use Rattle.std.proofs.Common.{◌≡◌, ℕ, Bool, true, false, if◌then◌else◌, List, [], ◌∷◌, ◌++◌, length, ◌≤◌, suc, map, Option, Some, None, arith, refl, sym, subst}
 use Rattle.std.specs.Prelude.{ℤ, int_le}
 use Rattle.std.specs.List.{slice_get, slice_set}
 use Rattle.ada_program.specs.declared.program.TypeDefinition.{TypeDefinition}
@@ -19,6 +19,7 @@ use Rattle.ada_meaning.specs.declared.event.Birth.{Birth}
 use Rattle.ada_meaning.specs.declared.event.Birth.TheVariants.{Creation, Copy, Adjustment}
 use Rattle.ada_meaning.specs.declared.event.Cause.TheVariants.{Undoing}
 use Rattle.ada_finalized.specs.Law.{NoOperationRunsOn}
+use Rattle.ada_declared.specs.Declared.{IsRecordOf, DeclaresApart, StandsApart, formals_given}
 use Rattle.ada_meaning.specs.declared.state.Id.{Id}
 use Rattle.ada_meaning.specs.declared.state.Value.{Value}
 use Rattle.ada_meaning.specs.declared.state.Value.TheVariants.{Null, Names}
@@ -29,7 +30,7 @@ use Rattle.ada_meaning.specs.Frame.{Frame, is_loop, is_return, is_master, Landin
 use Rattle.ada_meaning.specs.Frame as frame
 use Rattle.ada_meaning.specs.Heap.{Cell, Found, on_null, on_gone, on_other, finds}
 use Rattle.ada_meaning.specs.State.{Activation, home_of}
-use Rattle.ada_meaning.specs.Step.{halts, moves, tells, asks, picks, older, places_of, procedure_of, with_places, with_operands, copied_back, stored_back, places, operands, put, treating, has_parts, all_tasks, at, popped, held, newest, newest_ones, without_newest, given_values, given_places, operand_count, initial_values, made, record_next, storing, assign_next, target_next, stored_next, store_next, frees_next, branches_next, decided_next, turn_next, repeats_next, turned_next, count_turn_next, ranges_next, gets_next, received_next, receive_next, exit_next, exited_next, computing, call_next, stmt_next, stmts_next, line_next, declarations_next, frame_next, resumed, returned, unwound, undo_next, broken_next, broken_off, landed, pass_next}
+use Rattle.ada_meaning.specs.Step.{halts, moves, tells, asks, picks, older, places_of, procedure_of, with_places, with_operands, copied_back, stored_back, places, operands, put, treating, has_parts, all_tasks, at, popped, held, newest, newest_ones, without_newest, given_values, one_given, value_given, given_places, operand_count, initial_values, made, record_next, storing, assign_next, target_next, stored_next, store_next, frees_next, branches_next, decided_next, turn_next, repeats_next, turned_next, count_turn_next, ranges_next, gets_next, received_next, receive_next, exit_next, exited_next, computing, call_next, stmt_next, stmts_next, line_next, declarations_next, frame_next, resumed, returned, unwound, undo_next, broken_next, broken_off, landed, pass_next}
 use Rattle.ada_meaning.specs.Named.{State, Next, next, named, same, look, lent, standing, reads_boolean, reads_null, reads_integer, unary_given, binary_given}
 use Rattle.ada_typed.proofs.Kept.{procedure_operands}
 
@@ -342,6 +343,42 @@ module _ (types : List TypeDefinition) (bodies : List BodyForm) (w : List (Activ
   come (asks request answers) all = λ granted. stands_on types bodies (answers granted).control w (answers granted).activations (all granted).1 (all granted).0
   come (picks n taking) all = λ i below. stands_on types bodies (taking i).control w (taking i).activations (all i below).1 (all i below).0
 
+-- One operand, or two of them, give one value.
+one_count : (more : List Value → List Value) (n : ℕ) → ((vs : List Value) → length (more vs) ≤ n) → (vs : List Value) → length (one_given more vs) ≤ suc n
+one_count more n each [] = omega arith
+one_count more n each (v ∷ vs) = let rest = each vs in omega (arith, rest)
+
+value_count : (more : List Value → List Value) (n : ℕ) → ((vs : List Value) → length (more vs) ≤ n) → (vs : List Value) → length (value_given more vs) ≤ suc n
+value_count more n each [] = omega arith
+value_count more n each (r ∷ []) = omega arith
+value_count more n each (r ∷ v ∷ vs) = let rest = each vs in omega (arith, rest)
+
+-- No more values are given than there are actual parameters (6.4.1).
+given_count : (actuals : List ActualForm) (vs : List Value) → length (given_values actuals vs) ≤ length actuals
+given_count [] vs = omega arith
+given_count (in_value e ∷ rest) vs = one_count (given_values rest) (length rest) (given_count rest) vs
+given_count (in_null ∷ rest) vs = one_count (given_values rest) (length rest) (given_count rest) vs
+given_count (in_access path ∷ rest) vs = one_count (given_values rest) (length rest) (given_count rest) vs
+given_count (in_record p ∷ rest) vs = one_count (given_values rest) (length rest) (given_count rest) vs
+given_count (in_out_path path ∷ rest) vs = one_count (given_values rest) (length rest) (given_count rest) vs
+given_count (in_out_access path ∷ rest) vs = one_count (given_values rest) (length rest) (given_count rest) vs
+given_count (in_out_component path ∷ rest) vs = value_count (given_values rest) (length rest) (given_count rest) vs
+given_count (in_out_record p ∷ rest) vs = one_count (given_values rest) (length rest) (given_count rest) vs
+
+-- Where a call begins, no record object of the body is created yet (3.3.1).
+declares_given :
+    (bodies : List BodyForm) (procedure : ℕ) (b : BodyForm) (actuals : List ActualForm) (vs : List Value) (k : List (Frame Value)) → slice_get bodies procedure ≡ Some b
+    → ends_operation k ≡ false
+    → DeclaresApart bodies (formals_given (length actuals) k) (Some procedure) (given_places named (given_values actuals vs) b.variables) k
+declares_given bodies procedure b actuals vs k at_body call = (
+  (b, at_body),
+  λ x u some is held.
+      let kind = subst (λ (o : Option BodyForm). IsRecordOf o x) at_body is in
+      let all = given_each (length actuals) k call in
+      let given = given_count actuals vs in
+      subst (λ (v : Value). StandsApart v k) (sym (none_declared (given_values actuals vs) b.variables x kind.0 u (omega (arith, some, all, given)) kind.1 held)) tt,
+)
+
 module _ (types : List TypeDefinition) (bodies : List BodyForm) (each : BodiesSpare bodies) where
   -- A call begins (6.4).
   called_comes :
@@ -354,7 +391,7 @@ module _ (types : List TypeDefinition) (bodies : List BodyForm) (each : BodiesSp
       let given = given_places named (given_values actuals (newest_ones named (operand_count actuals) s)) b.variables in (
         each procedure b own.1,
         (
-          none_operates types bodies (Some procedure) given waits s.control own.2,
+          declares_given bodies procedure b actuals (newest_ones named (operand_count actuals) s) s.control own.1 own.2,
           subst (λ (now : Option ℕ). ActualsSpare (IsOther bodies now) actuals) (sym (procedure_operands [] s.activations)) own.0,
           stands_on types bodies s.control s.activations waits on h,
         ),

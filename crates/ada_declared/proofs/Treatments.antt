@@ -1,6 +1,6 @@
 -- What is left to do stands while an object is treated (7.6, 7.6.1), and while a master is left. Where an operation is called, its body has declared nothing yet.
 
-use Rattle.std.proofs.Common.{◌≡◌, ℕ, zero, suc, ◌<◌, ◌==◌, Bool, true, false, if◌then◌else◌, List, [], ◌∷◌, drop, Option, Some, None, arith, refl, subst}
+use Rattle.std.proofs.Common.{◌≡◌, ℕ, zero, suc, ◌≤◌, ◌==◌, Bool, true, false, if◌then◌else◌, List, [], ◌∷◌, length, Option, Some, None, arith, refl, sym, subst}
 use Rattle.std.specs.List.{slice_get, slice_index_or}
 use Rattle.ada_parts.specs.declared.tasks.Direction.TheVariants.{WholeFirst}
 use Rattle.ada_parts.specs.declared.tasks.Next.{Next as Follows}
@@ -28,10 +28,10 @@ use Rattle.ada_meaning.specs.Heap.{PartState, Cell, Found, on_null, on_gone, on_
 use Rattle.ada_meaning.specs.Named.{State, Next, named, look, on_object, finalized_part, treated, members}
 use Rattle.ada_meaning.specs.Run.{Event}
 use Rattle.ada_meaning.specs.State.{Activation, Owned, declared, collection, record_object, storage_pool, Item, Master}
-use Rattle.ada_meaning.specs.Step.{older, places_of, procedure_of, picked_task, all_tasks, halts, picks, direction_of, beginning as begun_by, at, treating, treated_on, operation_next, blanks, part_reference, born_next, begun_next, awaited_next, ended_next, finalized_next, performed_next, treats_next, taken_out, members_next, item_leave_next, master_leave_next, leave_next}
+use Rattle.ada_meaning.specs.Step.{older, places_of, procedure_of, picked_task, all_tasks, halts, picks, direction_of, beginning as begun_by, at, treating, treated_on, operation_next, blanks, given_places, part_reference, born_next, begun_next, awaited_next, ended_next, finalized_next, performed_next, treats_next, taken_out, members_next, item_leave_next, master_leave_next, leave_next}
 use Rattle.ada_typed.proofs.Kept.{Each}
-use Rattle.ada_declared.specs.Declared.{IsRecordOf, OperationDeclares}
-use Rattle.ada_declared.proofs.Standing.{BodySpares, IsOther, StandsBy, StandsIn, treating_stands}
+use Rattle.ada_declared.specs.Declared.{IsRecordOf, DeclaresApart, StandsApart, formals_given}
+use Rattle.ada_declared.proofs.Standing.{BodySpares, IsOther, ends_operation, given_one, StandsBy, StandsIn, treating_stands}
 use Rattle.ada_declared.proofs.Evaluations.{Holds, AllHold}
 
 -- Each body writes to no variable that is a record, but where that is declared.
@@ -47,13 +47,14 @@ blank_record (y ∷ variables) zero object v kind is =
     cc
 blank_record (y ∷ variables) (suc x) object v kind is = blank_record variables x object v kind is
 
--- Where an operation begins, no record object of its body is created yet.
-none_declared :
-    (variables : List VariableForm) (reference : Value) (x : ℕ) (object : TypeNo) (v : Value) → 0 < x → variable_kind variables x ≡ Some (variable.Record object)
-    → slice_get (reference ∷ drop 1 (blanks named variables)) x ≡ Some v → v ≡ Null
-none_declared variables reference zero object v some kind is = absurd (omega (arith, some))
-none_declared [] reference (suc x) object v some kind is = absurd (cc)
-none_declared (y ∷ variables) reference (suc x) object v some kind is = blank_record variables x object v kind is
+-- Where a body begins, no record object of it is created yet.
+pub none_declared :
+    (given : List Value) (variables : List VariableForm) (x : ℕ) (object : TypeNo) (v : Value) → length given ≤ x → variable_kind variables x ≡ Some (variable.Record object)
+    → slice_get (given_places named given variables) x ≡ Some v → v ≡ Null
+none_declared [] variables x object v some kind is = blank_record variables x object v kind is
+none_declared (u ∷ given) variables zero object v some kind is = absurd (omega (arith, some))
+none_declared (u ∷ given) [] (suc x) object v some kind is = absurd (cc kind)
+none_declared (u ∷ given) (y ∷ variables) (suc x) object v some kind is = none_declared given variables x object v (omega (arith, some)) kind is
 
 module _ (types : List TypeDefinition) (bodies : List BodyForm) where
   -- What comes of a state, whatever comes next, and whatever is answered.
@@ -63,23 +64,22 @@ module _ (types : List TypeDefinition) (bodies : List BodyForm) where
 module _ (types : List TypeDefinition) (bodies : List BodyForm) (each : BodiesSpare bodies) where
   -- The body of an operation begins (7.6, 6.4).
   declares_none :
-      (procedure : ℕ) (b : BodyForm) (reference : Value) (behind : List (Frame Value)) → slice_get bodies procedure ≡ Some b
-      → OperationDeclares bodies (Some procedure) (reference ∷ drop 1 (blanks named b.variables)) behind
-  declares_none procedure b reference [] at_body = tt
-  declares_none procedure b reference (frame.Awaits v by done of part tasks ∷ k) at_body = λ x u some is held.
-      let kind = subst (λ (o : Option BodyForm). IsRecordOf o x) at_body is in
-      rw (none_declared b.variables reference x kind.0 u some kind.1 held) tt
-  declares_none procedure b reference (frame.Confines ∷ k) at_body = λ x u some is held.
-      let kind = subst (λ (o : Option BodyForm). IsRecordOf o x) at_body is in
-      rw (none_declared b.variables reference x kind.0 u some kind.1 held) tt
-  declares_none procedure b reference (f ∷ k) at_body = tt
+      (procedure : ℕ) (b : BodyForm) (reference : Value) (behind : List (Frame Value)) → slice_get bodies procedure ≡ Some b → ends_operation behind ≡ true
+      → DeclaresApart bodies (formals_given 0 behind) (Some procedure) (given_places named (reference ∷ []) b.variables) behind
+  declares_none procedure b reference behind at_body operates = (
+    (b, at_body),
+    λ x u some is held.
+        let kind = subst (λ (o : Option BodyForm). IsRecordOf o x) at_body is in
+        let one = given_one 0 behind operates in
+        subst (λ (v : Value). StandsApart v behind) (sym (none_declared (reference ∷ []) b.variables x kind.0 u (omega (arith, some, one)) kind.1 held)) tt,
+  )
 
   operation_comes :
       (procedure : ℕ) (body : Option BodyForm) (reference : Value) (behind : List (Frame Value)) (event : Event) (s : State) → slice_get bodies procedure ≡ body
-      → StandsBy types bodies behind s.activations → AllCome types bodies (operation_next named procedure body reference behind event s)
-  operation_comes procedure None reference behind event s at_body h = tt
-  operation_comes procedure (Some b) reference behind event s at_body h =
-      (each procedure b at_body, (declares_none procedure b reference behind at_body, tt, h))
+      → ends_operation behind ≡ true → StandsBy types bodies behind s.activations → AllCome types bodies (operation_next named procedure body reference behind event s)
+  operation_comes procedure None reference behind event s at_body operates h = tt
+  operation_comes procedure (Some b) reference behind event s at_body operates h =
+      (each procedure b at_body, (declares_none procedure b reference behind at_body operates, tt, h))
 
   -- A part begins.
   born_comes : (v : Value) (by : Birth) (done : List Part) (of part : ℕ) (tasks : List Task) (o : Option PartState) (s : State) → StandsIn types bodies s
@@ -94,7 +94,7 @@ module _ (types : List TypeDefinition) (bodies : List BodyForm) (each : BodiesSp
   begun_comes v by done of part tasks operation None s h = tt
   begun_comes v by done of part tasks None (Some p) s h = born_comes v by done of part tasks (Some p) s h
   begun_comes v by done of part tasks (Some procedure) (Some p) s h =
-      operation_comes procedure (slice_get bodies procedure) (part_reference named v part p) (frame.Awaits v by done of part tasks ∷ s.control) Quiet s refl (tt, h)
+      operation_comes procedure (slice_get bodies procedure) (part_reference named v part p) (frame.Awaits v by done of part tasks ∷ s.control) Quiet s refl refl (tt, h)
 
   pub awaited_comes : (v : Value) (by : Birth) (done : List Part) (of part : ℕ) (tasks : List Task) (found : Found (Cell Value)) (s : State) → StandsIn types bodies s
       → AllCome types bodies (awaited_next named v by done of part tasks found s)
@@ -108,7 +108,7 @@ module _ (types : List TypeDefinition) (bodies : List BodyForm) (each : BodiesSp
       → StandsBy types bodies behind s.activations → AllCome types bodies (ended_next named bodies v part p behind operation event s)
   ended_comes v part p behind None event s h = h
   ended_comes v part p behind (Some procedure) event s h =
-      operation_comes procedure (slice_get bodies procedure) (part_reference named v part p) (frame.Confines ∷ behind) event s refl (tt, h)
+      operation_comes procedure (slice_get bodies procedure) (part_reference named v part p) (frame.Confines ∷ behind) event s refl refl (tt, h)
 
   alive_comes : (alive : Bool) (v : Value) (part : ℕ) (behind : List (Frame Value)) (operation : Option ℕ) (event : Event) (p : PartState) (s : State)
       → StandsBy types bodies behind s.activations

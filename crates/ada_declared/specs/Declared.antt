@@ -1,7 +1,7 @@
--- The record objects that the body of an operation of a controlled type declares (3.3.1, 7.6), in every run of a well-formed program, whatever its input and
--- whatever is granted and picked: they are created while the body runs, so no operation that waits for it, or behind it, is one of theirs.
+-- The record objects that a body declares (3.3.1): that of an operation of a controlled type (7.6), or of a procedure, in every run of a well-formed program, whatever
+-- its input and whatever is granted and picked. They are created while the body runs, so no operation that waits for it, or behind it, is one of theirs.
 
-use Rattle.std.specs.Prelude.{◌≡◌, ℕ, ◌<◌, ℤ, List, [], ◌∷◌, Option, Some, None}
+use Rattle.std.specs.Prelude.{◌≡◌, ℕ, ◌≤◌, ℤ, List, [], ◌∷◌, length, Option, Some, None}
 use Rattle.std.specs.List.{slice_get}
 use Rattle.ada_program.specs.declared.program.Program.{Program}
 use Rattle.ada_program.specs.declared.program.TypeNo.{TypeNo}
@@ -35,24 +35,29 @@ StandsApart (Names o) k = NoOperationRunsOn (Names o) k
 StandsApart (Scalar v) k = Unit {0}
 StandsApart (Part o place) k = NoOperationRunsOn (Names o) k
 
--- So it is with what each record variable of this body holds, but for the first, the formal parameter of an operation (7.6).
-abbrev pub DeclaresApart : List BodyForm → (procedure : Option ℕ) → (places : List Value) → (behind : List (Frame Value)) → Type 0
-DeclaresApart bodies procedure places k =
-    (x : ℕ) (v : Value) → 0 < x → IsRecordVariable bodies procedure x → slice_get places x ≡ Some v → StandsApart v k
+-- It is the body of a procedure of the program.
+abbrev pub HasBody : List BodyForm → (procedure : Option ℕ) → Type 0
+HasBody bodies None = ⊥
+HasBody bodies (Some procedure) = (b : BodyForm) × (slice_get bodies procedure ≡ Some b)
 
--- Where what is behind a body waits for an operation, the body is that of the operation, and so it is with that.
-abbrev pub OperationDeclares : List BodyForm → (procedure : Option ℕ) → (places : List Value) → (behind : List (Frame Value)) → Type 0
-OperationDeclares bodies procedure places (frame.Awaits v by done of part tasks ∷ k) =
-    DeclaresApart bodies procedure places (frame.Awaits v by done of part tasks ∷ k)
-OperationDeclares bodies procedure places (frame.Confines ∷ k) = DeclaresApart bodies procedure places (frame.Confines ∷ k)
-OperationDeclares bodies procedure places k = Unit {0}
+-- So it is with what each record variable of this body of a procedure holds, but for its first ones, which are so many formal parameters (6.1).
+abbrev pub DeclaresApart : List BodyForm → (formals : ℕ) → (procedure : Option ℕ) → (places : List Value) → (behind : List (Frame Value)) → Type 0
+DeclaresApart bodies formals procedure places k =
+    HasBody bodies procedure × ((x : ℕ) (v : Value) → formals ≤ x → IsRecordVariable bodies procedure x → slice_get places x ≡ Some v → StandsApart v k)
+
+-- How many formal parameters a body has, by what is behind it: as many as a call gives actual ones (6.4.1); and an operation has one, for the record that it is
+-- called for (7.6).
+abbrev pub formals_given : (given : ℕ) → (behind : List (Frame Value)) → ℕ
+formals_given given (frame.Awaits v by done of part tasks ∷ k) = 1
+formals_given given (frame.Confines ∷ k) = 1
+formals_given given k = given
 
 -- So it is with each activation, the running one first: the frame that ends its body is the first one of its kind in what is left to do, and behind that comes
 -- what is left of the caller (6.5).
 abbrev pub OperationsDeclare : List BodyForm → List (Frame Value) → List (Activation Value) → Type 0
 OperationsDeclare bodies [] activations = Unit {0}
 OperationsDeclare bodies (frame.Returns actuals references ∷ k) activations =
-    OperationDeclares bodies (procedure_of activations) (places_of activations) k × OperationsDeclare bodies k (older activations)
+    DeclaresApart bodies (formals_given (length actuals) k) (procedure_of activations) (places_of activations) k × OperationsDeclare bodies k (older activations)
 OperationsDeclare bodies (f ∷ k) activations = OperationsDeclare bodies k activations
 
 -- In each state of each run of a well-formed program.

@@ -1,7 +1,7 @@
 -- Procedures that are frugal have frugal bodies, by what is known of all procedures: what is known of the first ones stays known.
 
 use Rattle.std.proofs.Common.{◌≡◌, ℕ, zero, suc, Bool, true, false, ◌&&◌, ◌||◌, List, [], ◌∷◌, ◌++◌, length, map, ◌+◌, ◌<◌, Option, Some, None, refl, sym, ap, ◌∙◌, subst, inl, inr, arith}
-use Rattle.std.specs.Prelude.{not, ◌==◌, if◌then◌else◌, is_some, Option}
+use Rattle.std.specs.Prelude.{not, ◌==◌, ◌≤◌, nat_lt, if◌then◌else◌, is_some, Option}
 use Rattle.std.specs.List.{list_all, slice_get, slice_index_or}
 use Rattle.ada_effects.specs.Effects.{record_path_raises}
 use Rattle.ada_program.specs.Form.{RecordPathForm, ItemForm, RightForm, nothing, value_of, allocates, allocates_default, computes, StmtForm, skips, assigns, assigns_record, frees, gets, writes, writes_text, chooses, repeats, counts, exits, calls, returns, raises, encloses, StmtsForm, no_stmts, a_stmt, BranchesForm, otherwise, a_branch, HandlersForm, no_handlers, a_handler, DeclarationForm, creates_pool, collects, declares, declares_record}
@@ -9,15 +9,15 @@ use Rattle.ada_program.specs.ProgramForm.{TypeForm, BodyForm, ProgramForm}
 use Rattle.ada_program.specs.WellFormed.{finalization_of, object_named}
 use Rattle.ada_quiet.specs.Apart.{is_bare_item}
 use Rattle.ada_quiet.specs.Bare.{has_bare_objects}
-use Rattle.std.proofs.lemmas.Bool.{or_cases, or_left, or_right}
+use Rattle.std.proofs.lemmas.Bool.{lt-ltb, ltb-true, or_cases, or_left, or_right}
 use Rattle.ada_quiet.specs.Calm.{is_known_calm}
-use Rattle.ada_quiet.specs.Frugal.{Thrift, assigns_at_hand, allocates_frugally, called_by, is_bare_initial, is_copied_initial, is_unfinalized, is_unadjusted, is_unadjusted_named, is_unadjusted_initial, is_frugal_declaration, are_frugal_declarations, is_frugal_stmt, are_frugal, are_frugal_branches, are_frugal_handlers, is_frugal_body, frugal_from, frugal_procedures, frugal_operations, thrift_of, is_inert, is_copied}
+use Rattle.ada_quiet.specs.Frugal.{Thrift, assigns_at_hand, is_formal, allocates_frugally, called_by, is_bare_initial, is_copied_initial, is_unfinalized, is_unadjusted, is_unadjusted_named, is_unadjusted_initial, is_frugal_declaration, are_frugal_declarations, is_frugal_stmt, are_frugal, are_frugal_branches, are_frugal_handlers, is_frugal_body, frugal_from, frugal_procedures, frugal_operations, thrift_of, is_inert, is_copied}
 use Rattle.ada_quiet.proofs.InUse.{others}
 
 -- One of two tests is passed, where one is of two that ask for more.
-either_more : (first less more : Bool) → (less ≡ true → more ≡ true) → (first || less) ≡ true → (first || more) ≡ true
-either_more true less more asks is = refl
-either_more false less more asks is = asks is
+either_more : (first other less more : Bool) → (first ≡ true → other ≡ true) → (less ≡ true → more ≡ true) → (first || less) ≡ true → (other || more) ≡ true
+either_more true other less more one two is = or_left other more (one refl)
+either_more false other less more one two is = or_right other more (two is)
 
 -- Of two tests one is chosen in the same way.
 either : (which a b c d : Bool) → (a ≡ true → c ≡ true) → (b ≡ true → d ≡ true) → (if which then a else b) ≡ true → (if which then c else d) ≡ true
@@ -32,11 +32,22 @@ TellsMore less more = (n : ℕ) → slice_index_or less n false ≡ true → sli
 abbrev pub OperatesMore : (less more : Bool) → Type 0
 OperatesMore less more = less ≡ true → more ≡ true
 
--- What is frugal by the one is so by the other, which knows at least the same procedures, the same of record types, and the same of what tracks, and is asked of
--- operations, if the one is.
+-- A variable that is none of the first ones is none of fewer ones.
+behind_fewer : (x more less : ℕ) → less ≤ more → not (nat_lt x more) ≡ true → not (nat_lt x less) ≡ true
+behind_fewer x more less fewer h = by (nat_lt x less) refl
+  where
+    by : (first : Bool) → nat_lt x less ≡ first → not first ≡ true
+    by false is = refl
+    by true is =
+        let below = ltb-true x less is in
+        absurd (cc (lt-ltb x more (omega (arith, below, fewer)), h))
+
+-- What is frugal by the one is so by the other, which knows at least the same procedures, the same of record types, and the same of what tracks, is asked of
+-- operations, if the one is, and has no more formal parameters.
 module _ (one other : Thrift) (same : one.types ≡ other.types) (alike : one.unadjusted ≡ other.unadjusted) (finalized : one.unfinalized ≡ other.unfinalized)
     (untracked : one.untracked ≡ other.untracked)
-    (tells : TellsMore one.procedures other.procedures) (operates : OperatesMore one.operation other.operation) where
+    (tells : TellsMore one.procedures other.procedures) (operates : OperatesMore one.operation other.operation)
+    (fewer : other.formals ≤ one.formals) where
   -- What is asked of types holds of the same types.
   bare_more : (t : ℕ) → has_bare_objects one.types t ≡ has_bare_objects other.types t
   bare_more t = ap (λ (types : List TypeForm). has_bare_objects types t) same
@@ -109,15 +120,15 @@ module _ (one other : Thrift) (same : one.types ≡ other.types) (alike : one.un
   hand_more target h =
       let t = target.record_type in
       let near = not (record_path_raises target) in
-      let beside = not (target.object.root == 0) in
+      let x = target.object.root in
       let part = not (target.part == 0) in
-      others (one.operation && is_copied one t && near) (beside || (is_inert one t && part)) (other.operation && is_copied other t && near)
-      (beside || (is_inert other t && part))
-      (others (one.operation && is_copied one t) near (other.operation && is_copied other t) near
-      (others one.operation (is_copied one t) other.operation (is_copied other t) operates (copied_to t))
-      (λ is. is))
-      (either_more beside (is_inert one t && part) (is_inert other t && part)
-      (others (is_inert one t) part (is_inert other t) part (inert_more t) (λ is. is))) h
+      let in_one = one.operation && is_inert one t && part in
+      let in_other = other.operation && is_inert other t && part in
+      others (is_copied one t && near) (not (is_formal one x) || in_one) (is_copied other t && near) (not (is_formal other x) || in_other)
+      (others (is_copied one t) near (is_copied other t) near (copied_to t) (λ is. is))
+      (either_more (not (is_formal one x)) (not (is_formal other x)) in_one in_other (behind_fewer x one.formals other.formals fewer)
+      (others (one.operation && is_inert one t) part (other.operation && is_inert other t) part
+      (others one.operation (is_inert one t) other.operation (is_inert other t) operates (inert_more t)) (λ is. is))) h
 
   -- and so is one that is assigned.
   assigned_more : (target : RecordPathForm) (items : List ItemForm) → is_frugal_stmt one (assigns_record target items) ≡ true
@@ -202,23 +213,23 @@ module _ (types : List TypeForm) where
   from_more : (known : List Bool) (bs : List BodyForm) → TellsMore known (frugal_from types known bs)
   from_more known [] n h = h
   from_more known (b ∷ bs) n h =
-      let here = is_frugal_body (called_by types known) b in
+      let here = is_frugal_body (called_by types known (length b.formals)) b in
       from_more (known ++ here ∷ []) bs n (append_more known (here ∷ []) n h)
 
   from_keeps : (known : List Bool) (bs : List BodyForm) (n : ℕ) → n < length known
       → slice_index_or (frugal_from types known bs) n false ≡ slice_index_or known n false
   from_keeps known [] n less = refl
   from_keeps known (b ∷ bs) n less =
-      let here = is_frugal_body (called_by types known) b in
+      let here = is_frugal_body (called_by types known (length b.formals)) b in
       from_keeps (known ++ here ∷ []) bs n (omega (arith, less, append_length known here)) ∙ append_keeps known (here ∷ []) n less
 
   -- So each one behind those that are known is told as its body is.
   from_at : (known : List Bool) (bs : List BodyForm) (n i : ℕ) (b : BodyForm) → i ≡ n + length known → slice_get bs n ≡ Some b
       → slice_index_or (frugal_from types known bs) i false ≡ true
-      → is_frugal_body (called_by types (frugal_from types known bs)) b ≡ true
+      → is_frugal_body (called_by types (frugal_from types known bs) (length b.formals)) b ≡ true
   from_at known [] n i b place at told = absurd (cc at)
   from_at known (c ∷ bs) zero i b place at told =
-      let here = is_frugal_body (called_by types known) c in
+      let here = is_frugal_body (called_by types known (length c.formals)) c in
       let more = known ++ here ∷ [] in
       let all = frugal_from types more bs in
       let first : i ≡ length known = omega (arith, place) in
@@ -226,30 +237,32 @@ module _ (types : List TypeForm) where
       from_keeps more bs (length known) (omega (arith, append_length known here)) in
       let frugal : here ≡ true = sym (kept ∙ append_last known here) ∙ ap (λ (j : ℕ). slice_index_or all j false) (sym first) ∙ told in
       let same : c ≡ b = cc at in
-      subst (λ (d : BodyForm). is_frugal_body (called_by types all) d ≡ true) same
-      (body_more (called_by types known) (called_by types all) refl refl refl refl (λ j h. from_more more bs j (append_more known (here ∷ []) j h))
-      (λ h. h) c frugal)
+      subst (λ (d : BodyForm). is_frugal_body (called_by types all (length d.formals)) d ≡ true) same
+      (body_more (called_by types known (length c.formals)) (called_by types all (length c.formals)) refl refl refl refl (λ j h. from_more more bs j (append_more known (here ∷ []) j h))
+      (λ h. h) (omega arith) c frugal)
   from_at known (c ∷ bs) (suc n) i b place at told =
-      let here = is_frugal_body (called_by types known) c in
+      let here = is_frugal_body (called_by types known (length c.formals)) c in
       from_at (known ++ here ∷ []) bs n i b (omega (arith, place, append_length known here)) at told
-
--- What the bodies go by that are called in a program.
-abbrev pub thrift_called : ProgramForm → Thrift
-thrift_called p = record (thrift_of p) { operation = false }
 
 -- A procedure that is told to be frugal has a frugal body, as it is called.
 pub frugal_called : (p : ProgramForm) (number : ℕ) (b : BodyForm) → slice_index_or (frugal_procedures p) number false ≡ true
-    → slice_get p.bodies number ≡ Some b → is_frugal_body (thrift_called p) b ≡ true
+    → slice_get p.bodies number ≡ Some b → is_frugal_body (called_by p.types (frugal_procedures p) (length b.formals)) b ≡ true
 frugal_called p number b told there = from_at p.types [] p.bodies number number b (omega arith) there told
 
--- What is frugal as it is called is so as an operation.
-pub frugal_more : (p : ProgramForm) (b : BodyForm) → is_frugal_body (thrift_called p) b ≡ true → is_frugal_body (thrift_of p) b ≡ true
-frugal_more p b frugal = body_more (thrift_called p) (thrift_of p) refl refl refl refl (λ n h. h) (λ h. refl) b frugal
+-- What all bodies go by, those that are called and those of operations, whatever formal parameters they have.
+abbrev pub thrift_at : ProgramForm → Thrift
+thrift_at p = record (thrift_of p) { formals = 0 }
 
--- So a procedure that is told to be frugal has a body that is frugal as that of an operation, too.
+-- So what is frugal as an operation is frugal,
+pub operation_more : (p : ProgramForm) (b : BodyForm) → is_frugal_body (thrift_of p) b ≡ true → is_frugal_body (thrift_at p) b ≡ true
+operation_more p b frugal = body_more (thrift_of p) (thrift_at p) refl refl refl refl (λ n h. h) (λ h. refl) (omega arith) b frugal
+
+-- and a procedure that is told to be frugal has such a body.
 pub frugal_at : (p : ProgramForm) (number : ℕ) (b : BodyForm) → slice_index_or (frugal_procedures p) number false ≡ true
-    → slice_get p.bodies number ≡ Some b → is_frugal_body (thrift_of p) b ≡ true
-frugal_at p number b told there = frugal_more p b (frugal_called p number b told there)
+    → slice_get p.bodies number ≡ Some b → is_frugal_body (thrift_at p) b ≡ true
+frugal_at p number b told there =
+    body_more (called_by p.types (frugal_procedures p) (length b.formals)) (thrift_at p) refl refl refl refl (λ n h. h) (λ h. refl) (omega arith) b
+    (frugal_called p number b told there)
 
 -- What is told of each element is so of the one of a number.
 told_at : {A : Type 0} (test : A → Bool) (xs : List A) (n : ℕ) (x : A) → slice_index_or (map test xs) n false ≡ true → slice_get xs n ≡ Some x → test x ≡ true
@@ -271,13 +284,14 @@ alike false false there back = refl
 -- So it is by what is known, where the same is.
 pub thrift_alike :
     (one other : Thrift) → one.types ≡ other.types → one.unadjusted ≡ other.unadjusted → one.unfinalized ≡ other.unfinalized → one.untracked ≡ other.untracked
-    → one.procedures ≡ other.procedures → one.operation ≡ other.operation → (b : BodyForm) → is_frugal_body one b ≡ is_frugal_body other b
-thrift_alike one other types unadjusted unfinalized untracked procedures operation b =
+    → one.procedures ≡ other.procedures → one.operation ≡ other.operation → one.formals ≡ other.formals → (b : BodyForm)
+    → is_frugal_body one b ≡ is_frugal_body other b
+thrift_alike one other types unadjusted unfinalized untracked procedures operation formals b =
     alike (is_frugal_body one b) (is_frugal_body other b)
     (body_more one other types unadjusted unfinalized untracked (λ n h. ap (λ (known : List Bool). slice_index_or known n false) (sym procedures) ∙ h)
-    (λ h. sym operation ∙ h) b)
+    (λ h. sym operation ∙ h) (omega (arith, formals)) b)
     (body_more other one (sym types) (sym unadjusted) (sym unfinalized) (sym untracked) (λ n h. ap (λ (known : List Bool). slice_index_or known n false) procedures ∙ h)
-    (λ h. operation ∙ h) b)
+    (λ h. operation ∙ h) (omega (arith, formals)) b)
 
 -- Tests that tell the same tell the same of each element.
 pub tests_alike : {A : Type 0} (one other : A → Bool) → ((x : A) → one x ≡ other x) → (xs : List A) → map one xs ≡ map other xs

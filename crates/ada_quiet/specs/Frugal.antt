@@ -3,7 +3,7 @@
 -- what they allocate, and record objects: by default, or with an initial value, if no Adjust is called for that, or none of the program tracks. S10 refuses a
 -- Finalize that allocates.
 
-use Rattle.std.specs.Prelude.{ℕ, Bool, true, false, not, ◌&&◌, ◌||◌, ◌==◌, if◌then◌else◌, List, [], ◌∷◌, ◌++◌, map, Option, Some, None, is_some}
+use Rattle.std.specs.Prelude.{ℕ, Bool, true, false, not, ◌&&◌, ◌||◌, ◌==◌, nat_lt, length, if◌then◌else◌, List, [], ◌∷◌, ◌++◌, map, Option, Some, None, is_some}
 use Rattle.std.specs.List.{list_all, slice_index_or}
 use Rattle.ada_effects.specs.Effects.{record_path_raises}
 use Rattle.ada_program.specs.Form.{RecordPathForm, ItemForm, RightForm, nothing, value_of, allocates, allocates_default, computes, StmtForm, skips, assigns, assigns_record, frees, gets, writes, writes_text, chooses, repeats, counts, exits, calls, returns, raises, encloses, StmtsForm, no_stmts, a_stmt, BranchesForm, otherwise, a_branch, HandlersForm, no_handlers, a_handler, DeclarationForm, creates_pool, collects, declares, declares_record}
@@ -17,7 +17,7 @@ use Rattle.ada_quiet.specs.Idle.{holds_parts}
 
 -- What frugal bodies go by: the types of the program; of each record type with controlled parts, by its number among these, whether it overrides no Adjust, and
 -- whether it overrides no Finalize, neither itself nor in a part of it; whether no Adjust of the program tracks; of each procedure, by its number, whether its
--- body is frugal where it is called (6.4); and whether the body is that of an operation (7.6).
+-- body is frugal where it is called (6.4); and of the body itself whether it is that of an operation (7.6), and how many formal parameters it has (6.1).
 pub record Thrift : Type 0 where
   pub types : List TypeForm
   pub unadjusted : List Bool
@@ -25,6 +25,7 @@ pub record Thrift : Type 0 where
   pub untracked : Bool
   pub procedures : List Bool
   pub operation : Bool
+  pub formals : ℕ
 
 -- What is assigned is no new object (4.8), or one without controlled parts, or one that is initialized by default (7.6).
 abbrev pub allocates_frugally : Thrift → RightForm → Bool
@@ -80,13 +81,17 @@ is_frugal_declaration thrift (declares_record x t (Some items)) = is_bare_initia
 abbrev pub are_frugal_declarations : Thrift → List DeclarationForm → Bool
 are_frugal_declarations thrift ds = list_all (is_frugal_declaration thrift) ds
 
--- A record with controlled parts is assigned to as a whole (5.2) in the body of an operation alone, and only where no Adjust tracks, or none is called for it,
--- and it lies at hand: in a record variable, and no access value is followed on the way (4.1). If that is the formal parameter, which is the first variable,
--- nothing is called for it at all, and it is not that as a whole.
+-- A variable of the body is a formal parameter: these are the first ones (6.1).
+abbrev pub is_formal : Thrift → (variable : ℕ) → Bool
+is_formal thrift x = nat_lt x thrift.formals
+
+-- A record with controlled parts is assigned to as a whole (5.2) only where no Adjust tracks, or none is called for it, and it lies at hand: in a record variable,
+-- and no access value is followed on the way (4.1). If that is a formal parameter, the body is that of an operation, nothing is called for the record at all, and
+-- it is not the formal parameter as a whole.
 abbrev pub assigns_at_hand : Thrift → RecordPathForm → Bool
 assigns_at_hand thrift target =
-    thrift.operation && is_copied thrift target.record_type && not (record_path_raises target)
-    && (not (target.object.root == 0) || (is_inert thrift target.record_type && not (target.part == 0)))
+    is_copied thrift target.record_type && not (record_path_raises target)
+    && (not (is_formal thrift target.object.root) || (thrift.operation && is_inert thrift target.record_type && not (target.part == 0)))
 
 module _ (thrift : Thrift) where
   abbrev mutual
@@ -129,27 +134,28 @@ module _ (thrift : Thrift) where
 abbrev pub is_frugal_body : Thrift → BodyForm → Bool
 is_frugal_body thrift b = are_frugal_declarations thrift b.declarations && are_frugal thrift b.statements && are_frugal_handlers thrift b.handlers
 
--- What bodies go by that are called, where this is known of procedures.
-abbrev pub called_by : List TypeForm → (frugal : List Bool) → Thrift
-called_by types frugal = record {
+-- What a body with so many formal parameters goes by that is called, where this is known of procedures.
+abbrev pub called_by : List TypeForm → (frugal : List Bool) → (formals : ℕ) → Thrift
+called_by types frugal formals = record {
   types = types;
   unadjusted = unadjusted_types types;
   unfinalized = unfinalized_types types;
   untracked = leave_access types;
   procedures = frugal;
   operation = false;
+  formals = formals;
 }
 
 -- Of these procedures, behind others, as they are called: each calls those before it.
 abbrev pub frugal_from : List TypeForm → (frugal : List Bool) → List BodyForm → List Bool
 frugal_from types frugal [] = frugal
-frugal_from types frugal (b ∷ bs) = frugal_from types (frugal ++ is_frugal_body (called_by types frugal) b ∷ []) bs
+frugal_from types frugal (b ∷ bs) = frugal_from types (frugal ++ is_frugal_body (called_by types frugal (length b.formals)) b ∷ []) bs
 
 -- Of the procedures of a program, as they are called.
 abbrev pub frugal_procedures : ProgramForm → List Bool
 frugal_procedures p = frugal_from p.types [] p.bodies
 
--- What the frugal bodies of operations go by in a program.
+-- What the frugal bodies of operations go by in a program: each has one formal parameter (7.6).
 abbrev pub thrift_of : ProgramForm → Thrift
 thrift_of p = record {
   types = p.types;
@@ -158,6 +164,7 @@ thrift_of p = record {
   untracked = leave_access p.types;
   procedures = frugal_procedures p;
   operation = true;
+  formals = 1;
 }
 
 -- Of the procedures of a program, whether their bodies are frugal as those of operations.

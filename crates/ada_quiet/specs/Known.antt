@@ -13,7 +13,7 @@ abbrev pub is_marked : (marks : List Bool) → (number : ℕ) → Bool
 is_marked marks number = slice_index_or marks number false
 
 -- What frugal bodies go by, as the code holds it: the types, which record types override no Adjust and no Finalize, whether no Adjust tracks, which procedures
--- have frugal bodies where they are called, and whether the body is that of an operation.
+-- have frugal bodies where they are called, whether the body is that of an operation, and how many formal parameters it has.
 abbrev pub thrift_in : HeldThrift → Thrift
 thrift_in held = record {
   types = types_in held.types.now;
@@ -22,6 +22,7 @@ thrift_in held = record {
   untracked = held.untracked;
   procedures = held.procedures.now;
   operation = held.operation;
+  formals = held.formals;
 }
 
 -- Each place of a table has the record type of that number among those with controlled parts, if there is one (7.6).

@@ -1,5 +1,5 @@
 //! Declarations, statements and bodies, where they are frugal: they allocate, move, follow and free objects (4.8, 13.11.2), assign records
-//! without controlled parts, and in operations others that lie at hand (5.2), call procedures with frugal bodies alone (6.4), and
+//! without controlled parts, and others that lie at hand (5.2), call procedures with frugal bodies alone (6.4), and
 //! declare variables, and record objects. What has controlled parts of these objects is initialized by default, or is a copy for which no
 //! Adjust is called, unless none tracks in the program (3.3.1, 7.6); and of what they allocate, by default.
 
@@ -22,7 +22,7 @@ use ada_program::parts::finalization_of;
 use ada_program::program::{
     Branch, Declaration, Handler, Item, Procedure, RecordPath, Right, TypeDefinition,
 };
-use ada_program::{ProcedureNo, Program, Stmt, TypeNo};
+use ada_program::{ProcedureNo, Program, Stmt, TypeNo, VariableNo};
 use std::alloc::{AllocError, Global};
 
 /// What frugal bodies go by.
@@ -41,6 +41,8 @@ struct Thrift<'a> {
     procedures: &'a [bool],
     /// Whether the body is that of an operation (7.6).
     operation: bool,
+    /// How many formal parameters it has, which are its first variables (6.1).
+    formals: usize,
 }
 
 /// Whether what is assigned is no new object (4.8), or one that has no controlled parts, or is initialized by default (7.6).
@@ -168,16 +170,23 @@ fn is_copied(thrift: Thrift<'_>, record: TypeNo) -> bool
     thrift.untracked || is_unadjusted(thrift, record)
 }
 
-/// Whether the body is that of an operation, and another record may be copied to one with controlled parts that it assigns to as a whole
-/// (5.2), which lies at hand: in a record variable, and no access value is followed on the way (4.1). If that is the formal parameter,
-/// which is the first variable, nothing is called for it at all, and it is not that as a whole.
+/// Whether a variable of the body is a formal parameter: these are the first ones (6.1).
+fn is_formal(thrift: Thrift<'_>, variable: VariableNo) -> bool
+    ensures { result ≡ rules.is_formal (thrift_in thrift.entry) variable.0 }
+{
+    variable.0 < thrift.formals
+}
+
+/// Whether another record may be copied to one with controlled parts that a body assigns to as a whole (5.2), which lies at hand: in a
+/// record variable, and no access value is followed on the way (4.1). If that is a formal parameter, the body is that of an operation,
+/// nothing is called for the record at all, and it is not the formal parameter as a whole.
 fn assigns_at_hand(thrift: Thrift<'_>, target: &RecordPath) -> bool
     ensures { result ≡ rules.assigns_at_hand (thrift_in thrift.entry) (record_path_form target.now) }
 {
-    thrift.operation
-        && is_copied(thrift, target.record)
+    is_copied(thrift, target.record)
         && !record_path_raises(target)
-        && (target.object.root.0 != 0 || (is_inert(thrift, target.record) && target.part.0 != 0))
+        && (!is_formal(thrift, target.object.root)
+            || (thrift.operation && is_inert(thrift, target.record) && target.part.0 != 0))
 }
 
 /// Whether a record that is assigned to as a whole lies so, if it has controlled parts; and else whether nothing is copied into it that
@@ -282,8 +291,7 @@ fn are_frugal_handlers(thrift: Thrift<'_>, handlers: &[Handler]) -> bool
 }
 
 /// Whether a body is frugal: it allocates objects, moves, follows and frees; it calls procedures with frugal bodies alone, assigns records
-/// with controlled parts as wholes only where these lie at hand, and it is that of an operation, gives values to the
-/// components of no new one, and declares variables and record objects. An exception may come out of it. Linear in the body.
+/// with controlled parts as wholes only where these lie at hand, gives values to the components of no new one, and declares variables and record objects. An exception may come out of it. Linear in the body.
 fn is_frugal_body(thrift: Thrift<'_>, procedure: &Procedure) -> bool
     ensures { result ≡ rules.is_frugal_body (thrift_in thrift.entry) (body_form procedure.now) }
 {
@@ -319,6 +327,7 @@ fn frugal_by(
             untracked,
             procedures: &frugal,
             operation: false,
+            formals: procedure.formals.len(),
         };
         let is_frugal = is_frugal_body(thrift, procedure);
         frugal.push(is_frugal)?;
@@ -364,6 +373,7 @@ pub(crate) fn frugal_operations(alloc: Global, program: &Program) -> Result<Vec<
         untracked,
         procedures: &procedures,
         operation: true,
+        formals: 1,
     };
     are_frugal_bodies(alloc, program, thrift)
 }

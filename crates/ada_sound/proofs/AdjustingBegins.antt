@@ -68,14 +68,14 @@ use Rattle.ada_sound.proofs.Orderings.{as_good}
 use Rattle.ada_sound.proofs.Returns.{same_types}
 use Rattle.ada_sound.proofs.Sparing.{Sparing, bare_apart, begins_sparing, is_around}
 use Rattle.ada_sound.proofs.FrugalControl.{waits_first}
-use Rattle.ada_sound.proofs.Allowance.{Allowance, body_more, allocates_thriftily, are_thrifty_declarations, is_thrifty_stmt, are_thrifty, are_thrifty_branches, are_thrifty_handlers, is_thrifty_body, simple_allowance}
+use Rattle.ada_sound.proofs.Allowance.{Allowance, allocates_thriftily, are_thrifty_declarations, is_thrifty_stmt, are_thrifty, are_thrifty_branches, are_thrifty_handlers, is_thrifty_body, simple_allowance}
 use Rattle.ada_sound.proofs.Stored.{AllOut, none_departed, stored_entered}
 use Rattle.ada_sound.proofs.Touching.{resting}
 use Rattle.ada_sound.proofs.TouchingBegins.{IsAlone}
 use Rattle.ada_sound.proofs.Waiting.{stands_kept}
 
 -- A body is frugal as it is judged, where it is.
-module _ (allowance : Allowance) (own : Bool) (tracks : Tracks) where
+module _ (allowance : Allowance) (tracks : Tracks) where
   right_same : (right : RightForm) → allocates_thriftily allowance (seen_right tracks right) ≡ allocates_thriftily allowance right
   right_same nothing = refl
   right_same (value_of path) = refl
@@ -92,7 +92,7 @@ module _ (allowance : Allowance) (own : Bool) (tracks : Tracks) where
   declarations_same (declares_record x t (Some items) ∷ ds) = rw (declarations_same ds) refl
 
   mutual
-    stmt_same : (f : StmtForm) → is_thrifty_stmt allowance own (seen_stmt tracks f) ≡ is_thrifty_stmt allowance own f
+    stmt_same : (f : StmtForm) → is_thrifty_stmt allowance (seen_stmt tracks f) ≡ is_thrifty_stmt allowance f
     stmt_same skips = refl
     stmt_same (assigns target right) = right_same right
     stmt_same (assigns_record target items) = refl
@@ -109,20 +109,20 @@ module _ (allowance : Allowance) (own : Bool) (tracks : Tracks) where
     stmt_same (raises e) = refl
     stmt_same (encloses ds fs hs) = rw (declarations_same ds, stmts_same fs, handlers_same hs) refl
 
-    stmts_same : (fs : StmtsForm) → are_thrifty allowance own (seen_stmts tracks fs) ≡ are_thrifty allowance own fs
+    stmts_same : (fs : StmtsForm) → are_thrifty allowance (seen_stmts tracks fs) ≡ are_thrifty allowance fs
     stmts_same no_stmts = refl
     stmts_same (a_stmt f fs) = rw (stmt_same f, stmts_same fs) refl
 
-    branches_same : (branches : BranchesForm) → are_thrifty_branches allowance own (seen_branches tracks branches) ≡ are_thrifty_branches allowance own branches
+    branches_same : (branches : BranchesForm) → are_thrifty_branches allowance (seen_branches tracks branches) ≡ are_thrifty_branches allowance branches
     branches_same (otherwise fs) = stmts_same fs
     branches_same (a_branch e fs branches) = rw (stmts_same fs, branches_same branches) refl
 
-    handlers_same : (hs : HandlersForm) → are_thrifty_handlers allowance own (seen_handlers tracks hs) ≡ are_thrifty_handlers allowance own hs
+    handlers_same : (hs : HandlersForm) → are_thrifty_handlers allowance (seen_handlers tracks hs) ≡ are_thrifty_handlers allowance hs
     handlers_same no_handlers = refl
     handlers_same (a_handler choices fs hs) = rw (stmts_same fs, handlers_same hs) refl
 
-  pub thrifty_as_judged : (b : BodyForm) → is_thrifty_body allowance own b ≡ true
-      → (are_thrifty_declarations allowance (seen_declarations tracks b.declarations) ≡ true) × (are_thrifty allowance own (seen_stmts tracks b.statements) ≡ true) × (are_thrifty_handlers allowance own (seen_handlers tracks b.handlers) ≡ true)
+  pub thrifty_as_judged : (b : BodyForm) → is_thrifty_body allowance b ≡ true
+      → (are_thrifty_declarations allowance (seen_declarations tracks b.declarations) ≡ true) × (are_thrifty allowance (seen_stmts tracks b.statements) ≡ true) × (are_thrifty_handlers allowance (seen_handlers tracks b.handlers) ≡ true)
   thrifty_as_judged b is =
       let three = apart _ _ is in
       let two = apart _ _ three.0 in
@@ -342,7 +342,7 @@ module _ (program : Program) (number : ℕ) (b : BodyForm) (there : slice_get (p
         (begins_sparing program number b there x.cell.access shuns o place behind (record s { activations = a ∷ rest; heap = heap; mode = Running }))
 
     -- The body begins.
-    pub adjusting_begins : IsOfCopy by → tracks_of p.types number b ≡ w.tracks → is_tracker p number ≡ true → BodyIsOrderly w.tracks b → list_all (λ y. holds_one_value y.kind) (drop 1 b.variables) ≡ true → may_track p ≡ true → body_shuns p.types (is_around x.cell.access) (bare_apart program) b ≡ true → may_be_frugal p ≡ true → is_thrifty_body (simple_allowance p.types) false b ≡ true → FrameIsSimple w.tracks.first (Elaborates b.declarations b.statements b.handlers)
+    pub adjusting_begins : IsOfCopy by → tracks_of p.types number b ≡ w.tracks → is_tracker p number ≡ true → BodyIsOrderly w.tracks b → list_all (λ y. holds_one_value y.kind) (drop 1 b.variables) ≡ true → may_track p ≡ true → body_shuns p.types (is_around x.cell.access) (bare_apart program) b ≡ true → may_be_frugal p ≡ true → is_thrifty_body (simple_allowance p.types) b ≡ true → FrameIsSimple w.tracks.first (Elaborates b.declarations b.statements b.handlers)
         → ((e : Exception) → body_among (implicit_of p) (known_judged program number w.tracks []).program e ≡ true → ⊥)
         → CallApart p.types (is_tracker p) (seen_state w begun).control → RunsAsJudged → BeginsAsJudged → TypedAsJudged
         → (e : Event) (of : ℕ) → Alters s.heap e heap → WaitsFor p.types o of (begins by done) tasks k behind → Stands program gs (record s { activations = a ∷ rest }) → IsCalm (behind_call behind) → AreCalls gs
@@ -396,7 +396,7 @@ module _ (program : Program) (number : ℕ) (b : BodyForm) (there : slice_get (p
           frugal = record {
             upper = record { number = s.next; items = [] } ∷ [];
             masters = refl;
-            frugally = inl ((tt, thrifty_as_judged (simple_allowance p.types) (waits_first behind) w.tracks b (body_more (simple_allowance p.types) b frugal (waits_first behind))), inl ((refl, refl), refl, refl, refl));
+            frugally = inl ((tt, thrifty_as_judged (simple_allowance p.types) w.tracks b frugal), inl ((refl, refl), refl, refl, refl));
           };
           waits = record {
             parted = at.parted;

@@ -186,7 +186,7 @@ module _
     simple_so : is_simple_body p.types true c.b ≡ true
     simple_so = simple_with p.types (adjusts_alone p) c.b tracks.1
 
-    thrifty : is_thrifty_body (simple_allowance p.types) false c.b ≡ true
+    thrifty : is_thrifty_body (simple_allowance p.types) c.b ≡ true
     thrifty = simple_thrifty (simple_allowance p.types) c.b simple_so
 
     -- What the waiting activation sees, and the body.

@@ -1,5 +1,5 @@
 -- Frugal bodies (7.6, 4.8, 13.11.2) that free no objects with controlled parts, or may do so, and that create none and declare no record objects, or may do so,
--- as what is proved of them tells them apart. The body of an operation itself may assign to records with such parts as wholes (5.2).
+-- as what is proved of them tells them apart. Those that free some may assign to records with such parts as wholes (5.2).
 
 use Rattle.std.proofs.Common.{◌≡◌, ℕ, Bool, true, false, ◌&&◌, ◌||◌, List, Option, refl, sym, ◌∙◌, [], ◌∷◌, inl, inr}
 use Rattle.std.specs.Prelude.{not, is_some, if◌then◌else◌, Some, None}
@@ -14,6 +14,7 @@ use Rattle.ada_quiet.specs.Bare.{has_bare_objects}
 use Rattle.ada_quiet.specs.Calm.{is_known_calm, unadjusted_types, unfinalized_types}
 use Rattle.ada_quiet.specs.Idle.{holds_parts}
 use Rattle.ada_quiet.specs.Frugal.{allocates_frugally, is_bare_initial, is_copied_initial, is_unadjusted_named as frugal_named, is_unadjusted_initial, is_frugal_declaration, are_frugal_declarations, frugal_procedures, is_frugal_stmt, are_frugal, are_frugal_branches, are_frugal_handlers, is_frugal_body, Thrift, assigns_at_hand, thrift_of}
+use Rattle.ada_quiet.proofs.FrugalAt.{thrift_at}
 
 -- What such bodies go by: as frugal ones do, also whether no Adjust tracks, whether they may free objects with controlled parts, and whether they may allocate
 -- some and declare record objects.
@@ -38,9 +39,9 @@ is_unfinalized allowance t = is_known_calm allowance.unfinalized (finalization_o
 abbrev pub is_inert : Allowance → (record_type : ℕ) → Bool
 is_inert allowance t = is_unfinalized allowance t && is_unadjusted allowance t
 
--- The body of an operation itself may assign to a record as a whole (5.2) where no Adjust tracks, or for which none is called.
-abbrev pub may_assign : Allowance → (own : Bool) → (record_type : ℕ) → Bool
-may_assign allowance own t = allowance.treats_parts && own && ((allowance.objects && allowance.untracked) || is_unadjusted allowance t)
+-- Such a body may assign to a record as a whole (5.2), if it may treat parts, where no Adjust tracks, or for which none is called.
+abbrev pub may_assign : Allowance → (record_type : ℕ) → Bool
+may_assign allowance t = allowance.treats_parts && ((allowance.objects && allowance.untracked) || is_unadjusted allowance t)
 
 -- Such a body may free objects of an access type (13.11.2): they have no controlled parts, or it may treat those that have some.
 abbrev pub may_treat : Allowance → (access : ℕ) → Bool
@@ -87,15 +88,14 @@ is_thrifty_declaration allowance (declares_record x t (Some items)) = may_fill a
 abbrev pub are_thrifty_declarations : Allowance → List DeclarationForm → Bool
 are_thrifty_declarations allowance ds = list_all (is_thrifty_declaration allowance) ds
 
--- Whether it is the body of an operation itself, or one that is called.
-module _ (allowance : Allowance) (own : Bool) where
+module _ (allowance : Allowance) where
   abbrev mutual
     -- A statement is frugal, and allocates, frees and assigns nothing with controlled parts unless it may (4.8, 13.11.2, 5.2).
     pub is_thrifty_stmt : StmtForm → Bool
     is_thrifty_stmt skips = true
     is_thrifty_stmt (assigns target right) = allocates_thriftily allowance right
     is_thrifty_stmt (assigns_record target items) =
-        not (is_some (finalization_of allowance.types target.record_type)) || may_assign allowance own target.record_type
+        not (is_some (finalization_of allowance.types target.record_type)) || may_assign allowance target.record_type
     is_thrifty_stmt (frees access path) = may_treat allowance access
     is_thrifty_stmt (gets target) = true
     is_thrifty_stmt (writes e) = true
@@ -125,9 +125,9 @@ module _ (allowance : Allowance) (own : Bool) where
     are_thrifty_handlers (a_handler choices fs hs) = are_thrifty fs && are_thrifty_handlers hs
 
 -- All of a body is so.
-abbrev pub is_thrifty_body : Allowance → (own : Bool) → BodyForm → Bool
-is_thrifty_body allowance own b =
-    are_thrifty_declarations allowance b.declarations && are_thrifty allowance own b.statements && are_thrifty_handlers allowance own b.handlers
+abbrev pub is_thrifty_body : Allowance → BodyForm → Bool
+is_thrifty_body allowance b =
+    are_thrifty_declarations allowance b.declarations && are_thrifty allowance b.statements && are_thrifty_handlers allowance b.handlers
 
 -- Those of a program, which may free and create such objects.
 abbrev pub allowance_of : ProgramForm → Allowance
@@ -142,10 +142,10 @@ allowance_of p = record {
 }
 
 -- What is frugal is so.
-module _ (p : ProgramForm) (own : Bool) where
-  -- What the body goes by.
+module _ (p : ProgramForm) where
+  -- What the body goes by, be it that of an operation or one that is called.
   abbrev judged : Thrift
-  judged = record (thrift_of p) { operation = own }
+  judged = thrift_at p
 
   right_thrifty : (right : RightForm) → allocates_frugally judged right ≡ true → allocates_thriftily (allowance_of p) right ≡ true
   right_thrifty nothing is = refl
@@ -188,20 +188,20 @@ module _ (p : ProgramForm) (own : Bool) where
       let both = and_parts (is_frugal_declaration judged d) (are_frugal_declarations judged ds) is in
       rw (declaration_thrifty d both.0, declarations_thrifty ds both.1) refl
 
-  -- A record that is assigned has no controlled parts, or no Adjust is called for it, and it is assigned by the body of an operation itself.
+  -- A record that is assigned has no controlled parts, or no Adjust is called for it, or none tracks.
   assigned_thrifty :
       (target : RecordPathForm) (items : List ItemForm) (parted : Bool)
       → (if parted then assigns_at_hand judged target else list_all (is_bare_item p.types) items) ≡ true
-      → (not parted || may_assign (allowance_of p) own target.record_type) ≡ true
+      → (not parted || may_assign (allowance_of p) target.record_type) ≡ true
   assigned_thrifty target items false is = refl
   assigned_thrifty target items true is =
       let copied = leave_access p.types || is_unadjusted (allowance_of p) target.record_type in
-      let three = and_parts (own && copied && not (record_path_raises target)) _ is in
-      let two = and_parts (own && copied) (not (record_path_raises target)) three.0 in
+      let three = and_parts (copied && not (record_path_raises target)) _ is in
+      let two = and_parts copied (not (record_path_raises target)) three.0 in
       two.0
 
   mutual
-    stmt_thrifty : (f : StmtForm) → is_frugal_stmt judged f ≡ true → is_thrifty_stmt (allowance_of p) own f ≡ true
+    stmt_thrifty : (f : StmtForm) → is_frugal_stmt judged f ≡ true → is_thrifty_stmt (allowance_of p) f ≡ true
     stmt_thrifty skips is = refl
     stmt_thrifty (assigns target right) is = right_thrifty right is
     stmt_thrifty (assigns_record target items) is = assigned_thrifty target items (is_some (finalization_of p.types target.record_type)) is
@@ -221,93 +221,48 @@ module _ (p : ProgramForm) (own : Bool) where
         let three = and_parts (are_frugal_declarations judged ds) (are_frugal judged fs) two.0 in
         rw (declarations_thrifty ds three.0, stmts_thrifty fs three.1, handlers_thrifty hs two.1) refl
 
-    stmts_thrifty : (fs : StmtsForm) → are_frugal judged fs ≡ true → are_thrifty (allowance_of p) own fs ≡ true
+    stmts_thrifty : (fs : StmtsForm) → are_frugal judged fs ≡ true → are_thrifty (allowance_of p) fs ≡ true
     stmts_thrifty no_stmts is = refl
     stmts_thrifty (a_stmt f fs) is =
         let both = and_parts (is_frugal_stmt judged f) (are_frugal judged fs) is in rw (stmt_thrifty f both.0, stmts_thrifty fs both.1) refl
 
-    branches_thrifty : (branches : BranchesForm) → are_frugal_branches judged branches ≡ true → are_thrifty_branches (allowance_of p) own branches ≡ true
+    branches_thrifty : (branches : BranchesForm) → are_frugal_branches judged branches ≡ true → are_thrifty_branches (allowance_of p) branches ≡ true
     branches_thrifty (otherwise fs) is = stmts_thrifty fs is
     branches_thrifty (a_branch e fs branches) is =
         let both = and_parts (are_frugal judged fs) (are_frugal_branches judged branches) is in
         rw (stmts_thrifty fs both.0, branches_thrifty branches both.1) refl
 
-    handlers_thrifty : (hs : HandlersForm) → are_frugal_handlers judged hs ≡ true → are_thrifty_handlers (allowance_of p) own hs ≡ true
+    handlers_thrifty : (hs : HandlersForm) → are_frugal_handlers judged hs ≡ true → are_thrifty_handlers (allowance_of p) hs ≡ true
     handlers_thrifty no_handlers is = refl
     handlers_thrifty (a_handler choices fs hs) is =
         let both = and_parts (are_frugal judged fs) (are_frugal_handlers judged hs) is in
         rw (stmts_thrifty fs both.0, handlers_thrifty hs both.1) refl
 
   -- So is a body.
-  pub body_thrifty : (b : BodyForm) → is_frugal_body judged b ≡ true → is_thrifty_body (allowance_of p) own b ≡ true
+  pub body_thrifty : (b : BodyForm) → is_frugal_body judged b ≡ true → is_thrifty_body (allowance_of p) b ≡ true
   body_thrifty b is =
       let two = and_parts (are_frugal_declarations judged b.declarations && are_frugal judged b.statements) (are_frugal_handlers judged b.handlers) is in
       let three = and_parts (are_frugal_declarations judged b.declarations) (are_frugal judged b.statements) two.0 in
       rw (declarations_thrifty b.declarations three.0, stmts_thrifty b.statements three.1, handlers_thrifty b.handlers two.1) refl
 
 -- The declarations, the statements and the handlers of such a body are so.
-pub thrifty_parts : (allowance : Allowance) (own : Bool) (b : BodyForm) → is_thrifty_body allowance own b ≡ true
-    → (are_thrifty_declarations allowance b.declarations ≡ true) × (are_thrifty allowance own b.statements ≡ true) × (are_thrifty_handlers allowance own b.handlers ≡ true)
-thrifty_parts allowance own b is =
+pub thrifty_parts : (allowance : Allowance) (b : BodyForm) → is_thrifty_body allowance b ≡ true
+    → (are_thrifty_declarations allowance b.declarations ≡ true) × (are_thrifty allowance b.statements ≡ true) × (are_thrifty_handlers allowance b.handlers ≡ true)
+thrifty_parts allowance b is =
     let three = and_parts _ _ is in
     let two = and_parts _ _ three.0 in
     (two.0, two.1, three.1)
 
--- What a body may do that is called, that of an operation may do, too.
-module _ (allowance : Allowance) where
-  -- So it is with two of its parts.
-  both_more : {a b c d : Bool} → (a ≡ true → c ≡ true) → (b ≡ true → d ≡ true) → (a && b) ≡ true → (c && d) ≡ true
-  both_more {a = a} {b = b} first second is =
-      let both = and_parts a b is in
-      and_from _ _ (first both.0) (second both.1)
-
-  -- No record with controlled parts is assigned where that is called.
-  assigned_more : (t : ℕ) (bare may : Bool) → may ≡ may_assign allowance false t → (bare || may) ≡ true → bare ≡ true
-  assigned_more t true may same is = refl
-  assigned_more t false may same is = absurd (none allowance.treats_parts (sym same ∙ is))
-    where
-      none : (treats_parts : Bool) → (treats_parts && false && ((allowance.objects && allowance.untracked) || is_unadjusted allowance t)) ≡ true → ⊥
-      none true is' = cc is'
-      none false is' = cc is'
-
-  pub bare_assigned : (t : ℕ) → (not (is_some (finalization_of allowance.types t)) || may_assign allowance false t) ≡ true
-      → not (is_some (finalization_of allowance.types t)) ≡ true
-  bare_assigned t is = assigned_more t (not (is_some (finalization_of allowance.types t))) (may_assign allowance false t) refl is
-
-  mutual
-    stmt_more : (f : StmtForm) → is_thrifty_stmt allowance false f ≡ true → is_thrifty_stmt allowance true f ≡ true
-    stmt_more skips is = is
-    stmt_more (assigns target right) is = is
-    stmt_more (assigns_record target items) is =
-        or_left (not (is_some (finalization_of allowance.types target.record_type))) (may_assign allowance true target.record_type) (bare_assigned target.record_type is)
-    stmt_more (frees access path) is = is
-    stmt_more (gets target) is = is
-    stmt_more (writes e) is = is
-    stmt_more (writes_text text) is = is
-    stmt_more (chooses branches) is = branches_more branches is
-    stmt_more (repeats condition fs spot) is = stmts_more fs is
-    stmt_more (counts x low high fs spot) is = stmts_more fs is
-    stmt_more (exits condition spot) is = is
-    stmt_more (calls procedure actuals) is = is
-    stmt_more (returns spot) is = is
-    stmt_more (raises e) is = is
-    stmt_more (encloses ds fs hs) is = both_more (both_more (λ declared. declared) (stmts_more fs)) (handlers_more hs) is
-
-    stmts_more : (fs : StmtsForm) → are_thrifty allowance false fs ≡ true → are_thrifty allowance true fs ≡ true
-    stmts_more no_stmts is = is
-    stmts_more (a_stmt f fs) is = both_more (stmt_more f) (stmts_more fs) is
-
-    branches_more : (branches : BranchesForm) → are_thrifty_branches allowance false branches ≡ true → are_thrifty_branches allowance true branches ≡ true
-    branches_more (otherwise fs) is = stmts_more fs is
-    branches_more (a_branch e fs branches) is = both_more (stmts_more fs) (branches_more branches) is
-
-    handlers_more : (hs : HandlersForm) → are_thrifty_handlers allowance false hs ≡ true → are_thrifty_handlers allowance true hs ≡ true
-    handlers_more no_handlers is = is
-    handlers_more (a_handler choices fs hs) is = both_more (stmts_more fs) (handlers_more hs) is
-
-  pub body_more : (b : BodyForm) → is_thrifty_body allowance false b ≡ true → (own : Bool) → is_thrifty_body allowance own b ≡ true
-  body_more b is false = is
-  body_more b is true = both_more (both_more (λ declared. declared) (stmts_more b.statements)) (handlers_more b.handlers) is
+-- A record with controlled parts is assigned by no body that treats none.
+pub bare_assigned : (allowance : Allowance) → allowance.treats_parts ≡ false → (t : ℕ)
+    → (not (is_some (finalization_of allowance.types t)) || may_assign allowance t) ≡ true → not (is_some (finalization_of allowance.types t)) ≡ true
+bare_assigned allowance none t is = by (not (is_some (finalization_of allowance.types t))) (may_assign allowance t) refl is
+  where
+    by : (bare may : Bool) → may_assign allowance t ≡ may → (bare || may) ≡ true → bare ≡ true
+    by true may same is' = refl
+    by false may same is' =
+        let treats = (and_parts allowance.treats_parts ((allowance.objects && allowance.untracked) || is_unadjusted allowance t) (same ∙ is')).0 in
+        absurd (cc (none, treats))
 
 -- What a body goes by that calls nothing, declares variables alone, and neither allocates nor frees an object with controlled parts.
 abbrev pub simple_allowance : List TypeForm → Allowance

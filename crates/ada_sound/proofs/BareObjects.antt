@@ -44,6 +44,6 @@ module _ (program : Program) (well : IsWellFormed (program_form program)) where
       walked_bare p.types t first part (slice_get p.types access) (lie.1 (some_parts p.types well.types_fit t (slice_get p.types t) f refl is)) (ap (λ (o : Option Finalization). is_some o) is)
 
   -- What a body may free that calls nothing, and frees and allocates no object with controlled parts, has none.
-  pub frugal_frees_bare : (number : ℕ) (b : BodyForm) → slice_get p.bodies number ≡ Some b → is_thrifty_body (simple_allowance p.types) false b ≡ true → (t : ℕ)
+  pub frugal_frees_bare : (number : ℕ) (b : BodyForm) → slice_get p.bodies number ≡ Some b → is_thrifty_body (simple_allowance p.types) b ≡ true → (t : ℕ)
       → CoveredIn (implicit_of p) (seen_in (Some number) p) t → has_bare_objects p.types t ≡ true
   frugal_frees_bare number b there simple t covered = covered_bare p well number b there simple t covered

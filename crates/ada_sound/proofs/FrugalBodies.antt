@@ -1,7 +1,7 @@
 -- A frugal body (7.6, 7.6.1, 13.11.2) creates no collection, and neither do those that it calls (6.4): it nests wherever it is called while the collections
 -- of all access types are open, in which what its record objects name lies (3.8, 3.10.2).
 
-use Rattle.std.proofs.Common.{◌≡◌, ℕ, zero, suc, ◌==◌, Bool, true, false, List, [], ◌∷◌, ◌++◌, refl}
+use Rattle.std.proofs.Common.{◌≡◌, ℕ, zero, suc, ◌==◌, Bool, true, false, List, [], ◌∷◌, ◌++◌, length, refl}
 use Rattle.std.specs.List.{list_all, slice_get, slice_index_or}
 use Rattle.std.proofs.lemmas.Bool.{and_from, and_parts, or_right}
 use Rattle.ada_program.specs.Form.{StmtForm, skips, assigns, assigns_record, frees, gets, writes, writes_text, chooses, repeats, counts, exits, calls, returns, raises, encloses, StmtsForm, no_stmts, a_stmt, BranchesForm, otherwise, a_branch, HandlersForm, no_handlers, a_handler, DeclarationForm, creates_pool, collects, declares, declares_record}
@@ -130,7 +130,7 @@ all_step : (types : List TypeForm) → KindsOpen types → (bodies : List BodyFo
     → InStep types (frugal_from types allowance bodies) (callees_from types nests bodies)
 all_step types kinds [] allowance nests step = step
 all_step types kinds (b ∷ bodies) allowance nests step =
-    let frugal = called_by types allowance in
+    let frugal = called_by types allowance (length b.formals) in
     all_step types kinds bodies (allowance ++ is_frugal_body frugal b ∷ []) (nests ++ body_nests types nests b ∷ [])
     (one_more types allowance nests (is_frugal_body frugal b) (body_nests types nests b) step
     (λ is around all. body_is frugal kinds nests (step_nests types allowance nests step) b around all is))
@@ -143,7 +143,7 @@ frugal_nests p kinds number is around all =
 
 -- What a body goes by that calls nothing.
 abbrev pub calling_none : List TypeForm → Thrift
-calling_none types = record { types = types; unadjusted = []; unfinalized = []; untracked = false; procedures = []; operation = false }
+calling_none types = record { types = types; unadjusted = []; unfinalized = []; untracked = false; procedures = []; operation = false; formals = 0 }
 
 -- Such a body nests so, whatever calls create.
 pub lone_nests : (types : List TypeForm) → KindsOpen types → (callees : Callees) (b : BodyForm) (around : List ℕ) → HasAll types around → is_frugal_body (calling_none types) b ≡ true

@@ -131,10 +131,10 @@ replaced_in (StoresRecord v first count ∷ k) = v
 replaced_in (frame.Confines ∷ k) = replaced_in k
 replaced_in (f ∷ k) = Null
 
--- The body of an operation itself assigns to a record of this object (5.2), for which no Finalize is called; or no operation of the object runs.
+-- A body assigns to a record of this object (5.2): that of an operation itself to one for which no Finalize is called; or no operation of the object runs.
 abbrev pub AssignsThere : Allowance → Value → (tasks : List Task) → Control → Type 0
 AssignsThere frugal v tasks k =
-    (frugal.treats_parts ≡ true) × (own_in k ≡ true) × IsReplacing v k × (AreKnown frugal.types frugal.unfinalized tasks ⊎ NoOperationRunsOn v k)
+    (frugal.treats_parts ≡ true) × IsReplacing v k × (((own_in k ≡ true) × AreKnown frugal.types frugal.unfinalized tasks) ⊎ NoOperationRunsOn v k)
 
 -- All that is to be done for a record of a type is of such a record, and so is what is to be done for an object that is known by one.
 abbrev pub RecordIsInside : Allowance → List TypeDefinition → Type 0
@@ -143,12 +143,9 @@ RecordIsInside frugal tds =
     × ((t r : ℕ) (direction : Direction) → object_named frugal.types (Some t) ≡ Some r → TasksInside frugal.types r (all_tasks tds t direction))
 
 -- What it takes to assign to one.
-pub assigned_parts : (frugal : Allowance) (own : Bool) (t : ℕ) → may_assign frugal own t ≡ true
-    → (frugal.treats_parts ≡ true) × (own ≡ true) × (((frugal.objects && frugal.untracked) || is_unadjusted frugal t) ≡ true)
-assigned_parts frugal own t may =
-    let two = and_parts (frugal.treats_parts && own) ((frugal.objects && frugal.untracked) || is_unadjusted frugal t) may in
-    let one = and_parts frugal.treats_parts own two.0 in
-    (one.0, one.1, two.1)
+pub assigned_parts : (frugal : Allowance) (t : ℕ) → may_assign frugal t ≡ true
+    → (frugal.treats_parts ≡ true) × (((frugal.objects && frugal.untracked) || is_unadjusted frugal t) ≡ true)
+assigned_parts frugal t may = and_parts frugal.treats_parts ((frugal.objects && frugal.untracked) || is_unadjusted frugal t) may
 
 -- A record that is assigned has no controlled parts, or that may be assigned.
 pub assigned_with : (parts bare may : Bool) → (bare ≡ true → parts ≡ false) → (bare || may) ≡ true → parts ≡ true → may ≡ true
@@ -204,50 +201,50 @@ operated_in (frame.Confines ∷ k) = finalized_before k ∷ []
 operated_in (f ∷ k) = []
 
 -- What a frame of such a body does, or of one that it calls: what it allocates and frees has no controlled parts, unless the body may treat others. While a
--- master is left, or a new object begins, that is the first frame: below. The body of an operation itself may assign to inert records.
-abbrev pub FrugalFrame : Allowance → (own : Bool) → Frame Value → Type 0
-FrugalFrame frugal own (Elaborates ds fs hs) = (are_thrifty_declarations frugal ds ≡ true) × (are_thrifty frugal own fs ≡ true) × (are_thrifty_handlers frugal own hs ≡ true)
-FrugalFrame frugal own (Does fs) = (are_thrifty frugal own fs ≡ true)
-FrugalFrame frugal own (Decides fs branches) = (are_thrifty frugal own fs ≡ true) × (are_thrifty_branches frugal own branches ≡ true)
-FrugalFrame frugal own (Repeats condition fs) = (are_thrifty frugal own fs ≡ true)
-FrugalFrame frugal own (Turns e fs) = (are_thrifty frugal own fs ≡ true)
-FrugalFrame frugal own (Ranges x fs) = (are_thrifty frugal own fs ≡ true)
-FrugalFrame frugal own (Counts x value last fs) = (are_thrifty frugal own fs ≡ true)
-FrugalFrame frugal own Exits = Unit {0}
-FrugalFrame frugal own (Handles hs) = (are_thrifty_handlers frugal own hs ≡ true)
-FrugalFrame frugal own Closes = Unit {0}
-FrugalFrame frugal own (Calls number b actuals) = (is_thrifty_body frugal false b ≡ true)
-FrugalFrame frugal own (Evaluates right) = (allocates_thriftily frugal right ≡ true)
-FrugalFrame frugal own (Computes e) = Unit {0}
-FrugalFrame frugal own (Follows cs) = Unit {0}
-FrugalFrame frugal own (TestsNull equal) = Unit {0}
-FrugalFrame frugal own (Refers path) = Unit {0}
-FrugalFrame frugal own (RefersIn place t) = Unit {0}
-FrugalFrame frugal own (Opens path) = Unit {0}
-FrugalFrame frugal own (OpensIn c) = Unit {0}
-FrugalFrame frugal own (Continues links) = Unit {0}
-FrugalFrame frugal own (Applies operator) = Unit {0}
-FrugalFrame frugal own (AppliesAlone operator) = Unit {0}
-FrugalFrame frugal own (Stores x) = Unit {0}
-FrugalFrame frugal own (Targets c right) = (allocates_thriftily frugal right ≡ true)
-FrugalFrame frugal own (StoresIn v c) = Unit {0}
-FrugalFrame frugal own (TargetsRecord first t items) = Unit {0}
-FrugalFrame frugal own (StoresRecord v first count) = Unit {0}
-FrugalFrame frugal own (Assigns t) = (may_assign frugal own t ≡ true)
-FrugalFrame frugal own (Receives c) = Unit {0}
-FrugalFrame frugal own (Fills items) = Unit {0}
-FrugalFrame frugal own (Copies first t) = Unit {0}
-FrugalFrame frugal own (Creates access count) = (may_create frugal access ≡ true)
-FrugalFrame frugal own (FreesIn access c) = (may_treat frugal access ≡ true)
-FrugalFrame frugal own (Declares x) = Unit {0}
-FrugalFrame frugal own (DeclaresRecord x t) = (may_fill frugal t ≡ true)
-FrugalFrame frugal own Writes = Unit {0}
-FrugalFrame frugal own (Ends v) = Unit {0}
-FrugalFrame frugal own (GivesBack v cause pool) = Unit {0}
-FrugalFrame frugal own (Resumes mode) = Unit {0}
-FrugalFrame frugal own (Clears x) = Unit {0}
-FrugalFrame frugal own (ClearsIn v c) = Unit {0}
-FrugalFrame frugal own f = ⊥
+-- master is left, or a new object begins, that is the first frame: below.
+abbrev pub FrugalFrame : Allowance → Frame Value → Type 0
+FrugalFrame frugal (Elaborates ds fs hs) = (are_thrifty_declarations frugal ds ≡ true) × (are_thrifty frugal fs ≡ true) × (are_thrifty_handlers frugal hs ≡ true)
+FrugalFrame frugal (Does fs) = (are_thrifty frugal fs ≡ true)
+FrugalFrame frugal (Decides fs branches) = (are_thrifty frugal fs ≡ true) × (are_thrifty_branches frugal branches ≡ true)
+FrugalFrame frugal (Repeats condition fs) = (are_thrifty frugal fs ≡ true)
+FrugalFrame frugal (Turns e fs) = (are_thrifty frugal fs ≡ true)
+FrugalFrame frugal (Ranges x fs) = (are_thrifty frugal fs ≡ true)
+FrugalFrame frugal (Counts x value last fs) = (are_thrifty frugal fs ≡ true)
+FrugalFrame frugal Exits = Unit {0}
+FrugalFrame frugal (Handles hs) = (are_thrifty_handlers frugal hs ≡ true)
+FrugalFrame frugal Closes = Unit {0}
+FrugalFrame frugal (Calls number b actuals) = (is_thrifty_body frugal b ≡ true)
+FrugalFrame frugal (Evaluates right) = (allocates_thriftily frugal right ≡ true)
+FrugalFrame frugal (Computes e) = Unit {0}
+FrugalFrame frugal (Follows cs) = Unit {0}
+FrugalFrame frugal (TestsNull equal) = Unit {0}
+FrugalFrame frugal (Refers path) = Unit {0}
+FrugalFrame frugal (RefersIn place t) = Unit {0}
+FrugalFrame frugal (Opens path) = Unit {0}
+FrugalFrame frugal (OpensIn c) = Unit {0}
+FrugalFrame frugal (Continues links) = Unit {0}
+FrugalFrame frugal (Applies operator) = Unit {0}
+FrugalFrame frugal (AppliesAlone operator) = Unit {0}
+FrugalFrame frugal (Stores x) = Unit {0}
+FrugalFrame frugal (Targets c right) = (allocates_thriftily frugal right ≡ true)
+FrugalFrame frugal (StoresIn v c) = Unit {0}
+FrugalFrame frugal (TargetsRecord first t items) = Unit {0}
+FrugalFrame frugal (StoresRecord v first count) = Unit {0}
+FrugalFrame frugal (Assigns t) = (may_assign frugal t ≡ true)
+FrugalFrame frugal (Receives c) = Unit {0}
+FrugalFrame frugal (Fills items) = Unit {0}
+FrugalFrame frugal (Copies first t) = Unit {0}
+FrugalFrame frugal (Creates access count) = (may_create frugal access ≡ true)
+FrugalFrame frugal (FreesIn access c) = (may_treat frugal access ≡ true)
+FrugalFrame frugal (Declares x) = Unit {0}
+FrugalFrame frugal (DeclaresRecord x t) = (may_fill frugal t ≡ true)
+FrugalFrame frugal Writes = Unit {0}
+FrugalFrame frugal (Ends v) = Unit {0}
+FrugalFrame frugal (GivesBack v cause pool) = Unit {0}
+FrugalFrame frugal (Resumes mode) = Unit {0}
+FrugalFrame frugal (Clears x) = Unit {0}
+FrugalFrame frugal (ClearsIn v c) = Unit {0}
+FrugalFrame frugal f = ⊥
 
 -- An object is finalized that is freed or undone, ceases to exist behind that, and no operation of it runs there.
 abbrev pub EndsThere : Allowance → Value → Treatment → Control → Type 0
@@ -292,16 +289,16 @@ module _ (frugal : Allowance) where
         ⊎ (FrugalLeads behind among k ms ⊎ FrugalOperated behind among k ms)
     FrugalLeads behind among (Elaborates ds fs hs ∷ k) [] = ⊥
     FrugalLeads behind among (Elaborates ds fs hs ∷ k) (m ∷ ms) =
-        (AreOwnedBy frugal m.items × FrugalFrame frugal (own_in k) (Elaborates ds fs hs)) × FrugalLeads behind among k ms
+        (AreOwnedBy frugal m.items × FrugalFrame frugal (Elaborates ds fs hs)) × FrugalLeads behind among k ms
     FrugalLeads behind among (Closes ∷ k) [] = ⊥
     FrugalLeads behind among (Closes ∷ k) (m ∷ ms) = AreOwnedBy frugal m.items × FrugalLeads behind among k ms
     FrugalLeads behind among (Declares x ∷ k) [] = ⊥
-    FrugalLeads behind among (Declares x ∷ k) (m ∷ ms) = FrugalFrame frugal (own_in k) (Declares x) × FrugalLeads behind among k (m ∷ ms)
+    FrugalLeads behind among (Declares x ∷ k) (m ∷ ms) = FrugalFrame frugal (Declares x) × FrugalLeads behind among k (m ∷ ms)
     FrugalLeads behind among (DeclaresRecord x t ∷ k) [] = ⊥
-    FrugalLeads behind among (DeclaresRecord x t ∷ k) (m ∷ ms) = FrugalFrame frugal (own_in k) (DeclaresRecord x t) × FrugalLeads behind among k (m ∷ ms)
+    FrugalLeads behind among (DeclaresRecord x t ∷ k) (m ∷ ms) = FrugalFrame frugal (DeclaresRecord x t) × FrugalLeads behind among k (m ∷ ms)
     FrugalLeads behind among (frame.Treats v treatment tasks ∷ k) ms = EndsThere frugal v treatment k × FrugalLeads behind among k ms
     FrugalLeads behind among (frame.Confines ∷ k) ms = EndsOperation frugal k × FrugalLeads behind among k ms
-    FrugalLeads behind among (f ∷ k) ms = FrugalFrame frugal (own_in k) f × FrugalLeads behind among k ms
+    FrugalLeads behind among (f ∷ k) ms = FrugalFrame frugal f × FrugalLeads behind among k ms
 
     -- The innermost master is being left, and an object in it is finalized first, or has been; and then this is left to do.
     pub FrugalLeaves : (behind : Control) → (among : List Value) → Control → List Master → Type 0
@@ -314,7 +311,7 @@ module _ (frugal : Allowance) where
     FrugalLeaves behind among (frame.Confines ∷ k) ms = LeavesOperation frugal k × FrugalLeaves behind among k ms
     FrugalLeaves behind among (f ∷ k) ms = ⊥
 
-    -- A new object begins first (4.8, 3.3.1, 7.6), and then this is left to do; or the body of an operation itself assigns to a record (5.2): that is
+    -- A new object begins first (4.8, 3.3.1, 7.6), and then this is left to do; or the body assigns to a record (5.2): that is
     -- finalized, another one is copied to it, and it is adjusted.
     pub FrugalBegins : (behind : Control) → (among : List Value) → Control → List Master → Type 0
     FrugalBegins behind among [] ms = ⊥
@@ -377,21 +374,15 @@ operated_awaited frugal back among (frame.Confines ∷ k) ms q = tt
 operated_awaited frugal back among (frame.Awaits v by done of part tasks ∷ k) ms q = tt
 operated_awaited frugal back among (f ∷ k) ms q = absurd q
 
--- What the body of an operation itself may do, it may do in front of what waits for that.
-thrifty_behind : (frugal : Allowance) (b : BodyForm) → is_thrifty_body frugal true b ≡ true → (behind : Control) → IsAwaited behind
-    → is_thrifty_body frugal (waits_first behind) b ≡ true
-thrifty_behind frugal b is behind awaited =
-    subst (λ (own : Bool). is_thrifty_body frugal own b ≡ true) (sym (awaited_first behind awaited)) is
-
 -- It begins, in a master of its own.
-pub frugal_begins : {mode : Mode} (frugal : Allowance) (b : BodyForm) → is_thrifty_body frugal true b ≡ true → (behind : Control) → IsAwaited behind → (number : ℕ)
+pub frugal_begins : {mode : Mode} (frugal : Allowance) (b : BodyForm) → is_thrifty_body frugal b ≡ true → (behind : Control) → IsAwaited behind → (number : ℕ)
     → Frugal frugal behind [] mode (Elaborates b.declarations b.statements b.handlers ∷ Returns [] [] ∷ behind) (record { number = number; items = [] } ∷ [])
 frugal_begins frugal b is behind awaited number =
-    inl ((tt, thrifty_parts frugal (waits_first behind) b (thrifty_behind frugal b is behind awaited)), inl ((refl, refl), refl, refl, refl))
+    inl ((tt, thrifty_parts frugal b is), inl ((refl, refl), refl, refl, refl))
 
 -- So it does as the operation of a part of an object.
 pub frugal_starts :
-    (frugal : Allowance) (procedure : ℕ) (b : BodyForm) → is_thrifty_body frugal true b ≡ true → (reference : Value) (behind : Control) → IsAwaited behind → (s : State)
+    (frugal : Allowance) (procedure : ℕ) (b : BodyForm) → is_thrifty_body frugal b ≡ true → (reference : Value) (behind : Control) → IsAwaited behind → (s : State)
     → Frugally frugal s.masters behind [] (operating named procedure b reference behind s)
 frugal_starts frugal procedure b is reference behind awaited s = record {
   upper = record { number = s.next; items = [] } ∷ [];
@@ -401,14 +392,14 @@ frugal_starts frugal procedure b is reference behind awaited s = record {
 
 -- In front of what is left to do already, the body of another operation begins so.
 pub frugal_starts_inside :
-    (frugal : Allowance) (back : Control) (among : List Value) (upper lower : List Master) (procedure : ℕ) (b : BodyForm) → is_thrifty_body frugal true b ≡ true
+    (frugal : Allowance) (back : Control) (among : List Value) (upper lower : List Master) (procedure : ℕ) (b : BodyForm) → is_thrifty_body frugal b ≡ true
     → (reference : Value) (behind : Control) (s : State)
     → s.masters ≡ upper ++ lower → FrugalOperated frugal back among behind upper → Frugally frugal lower back among (operating named procedure b reference behind s)
 frugal_starts_inside frugal back among upper lower procedure b is reference behind s masters leads = record {
   upper = record { number = s.next; items = [] } ∷ upper;
   masters = ap (λ (ms : List Master). record { number = s.next; items = [] } ∷ ms) masters;
   frugally =
-      inl ((tt, thrifty_parts frugal (waits_first behind) b (thrifty_behind frugal b is behind (operated_awaited frugal back among behind upper leads))), inr (inr leads));
+      inl ((tt, thrifty_parts frugal b is), inr (inr leads));
 }
 
 -- An object that is freed or undone is finalized before this.
@@ -465,9 +456,9 @@ replacing_in v k replacing = ap replaced_in replacing.is
 -- The operation of one of its parts is called, where it is assigned to and no other operation of its object runs.
 pub replaces_operated :
     (frugal : Allowance) (back : Control) (among : List Value) (v : Value) (cause : Cause) (tasks : List Task) (k : Control) (ms : List Master) → IsAssigned cause
-    → copies_first k ≡ true → frugal.treats_parts ≡ true → own_in k ≡ true → IsReplacing v k → NoOperationRunsOn v k → FrugalBegins frugal back among k ms
+    → copies_first k ≡ true → frugal.treats_parts ≡ true → IsReplacing v k → NoOperationRunsOn v k → FrugalBegins frugal back among k ms
     → FrugalOperated frugal back (v ∷ among) (frame.Confines ∷ treating v (ends cause) tasks k) ms
-replaces_operated frugal back among v cause tasks k ms assigns copies treats own replacing alone q =
+replaces_operated frugal back among v cause tasks k ms assigns copies treats replacing alone q =
     (among, ap (λ (w : Value). w ∷ among) (sym (before tasks)), inr (inr ((treats, same tasks, by tasks), goes tasks)))
   where
     before : (left : List Task) → finalized_before (treating v (ends cause) left k) ≡ v
@@ -484,7 +475,7 @@ replaces_operated frugal back among v cause tasks k ms assigns copies treats own
 
     goes : (left : List Task) → FrugalBegins frugal back among (treating v (ends cause) left k) ms
     goes [] = q
-    goes (task ∷ left) = ((assigns, copies, (treats, own, replacing, inr alone)), q)
+    goes (task ∷ left) = ((assigns, copies, (treats, replacing, inr alone)), q)
 
 -- Or an operation begins a part of a new object.
 pub begun_leads :

@@ -42,7 +42,7 @@ use Rattle.ada_quiet.specs.Bare.{has_bare_objects}
 use Rattle.ada_finalized.specs.Law.{NoOperationRunsOn}
 use Rattle.ada_owners.proofs.Objects.{next_id}
 use Rattle.ada_scopes.specs.Scopes.{is_innermost, is_number_of}
-use Rattle.ada_sound.proofs.Allowance.{Allowance, fills_parts, is_unadjusted, is_unfinalized, may_assign, body_more, may_treat, allocates_thriftily, is_thrifty_declaration, are_thrifty_declarations, is_thrifty_stmt, are_thrifty, are_thrifty_branches, are_thrifty_handlers, is_thrifty_body, thrifty_parts, is_inert}
+use Rattle.ada_sound.proofs.Allowance.{Allowance, fills_parts, is_unadjusted, is_unfinalized, may_assign, may_treat, allocates_thriftily, is_thrifty_declaration, are_thrifty_declarations, is_thrifty_stmt, are_thrifty, are_thrifty_branches, are_thrifty_handlers, is_thrifty_body, thrifty_parts, is_inert}
 use Rattle.ada_sound.proofs.Fits.{place_at}
 use Rattle.ada_sound.proofs.Invariant.{Control}
 use Rattle.ada_sound.proofs.OperationStarts.{apart}
@@ -267,13 +267,13 @@ module _ (frugal : Allowance) (lower : List Master) (behind : Control) (among : 
     store_on o c v (finds cell) all k q = stored_on o c v (slice_get cell.values c) all k q
 
     -- A record is assigned to (5.2). With controlled parts it gets its value from one other record: target and source are found first.
-    copy_on : (p : RecordPathForm) (items : List ItemForm) (all : List (Activation Value)) → (k : Control) → may_assign frugal (own_in k) p.record_type ≡ true → Left k → Fine (copy_next named p items (now all k ms))
+    copy_on : (p : RecordPathForm) (items : List ItemForm) (all : List (Activation Value)) → (k : Control) → may_assign frugal p.record_type ≡ true → Left k → Fine (copy_next named p items (now all k ms))
     copy_on p [] all k may q = tt
     copy_on p (item_of_record source ∷ []) all k may q = on _ refl (tt, (tt, (may, q)))
     copy_on p (i ∷ is) all k may q = tt
 
     -- Without, the object in which it lies is found, the items are evaluated, and then its components get their values.
-    record_assign_on : (p : RecordPathForm) (items : List ItemForm) (all : List (Activation Value)) → (k : Control) → (parts : Bool) → (parts ≡ true → may_assign frugal (own_in k) p.record_type ≡ true) → Left k → Fine (record_assign_next named parts p items (now all k ms))
+    record_assign_on : (p : RecordPathForm) (items : List ItemForm) (all : List (Activation Value)) → (k : Control) → (parts : Bool) → (parts ≡ true → may_assign frugal p.record_type ≡ true) → Left k → Fine (record_assign_next named parts p items (now all k ms))
     record_assign_on p items all k true may q = copy_on p items all k (may refl) q
     record_assign_on p items all k false may q =
         let v = place_at (places_of all) p.object.root in
@@ -281,19 +281,19 @@ module _ (frugal : Allowance) (lower : List Master) (behind : Control) (among : 
 
     -- Where target and source are found and are not one, the target is finalized, the source is copied to it, and it is adjusted. Where an operation may be called
     -- for that, none of its object runs.
-    assigning_on : (t : ℕ) (target source : Value) → RecordIsInside frugal tds → (all : List (Activation Value)) → (k : Control) → may_assign frugal (own_in k) t ≡ true
-        → (own_in k ≡ true → is_inert frugal t ≡ false → NoOperationRunsOn (named.whole target) k) → Left k → Goes (assigning named tds t target source (now all k ms))
+    assigning_on : (t : ℕ) (target source : Value) → RecordIsInside frugal tds → (all : List (Activation Value)) → (k : Control) → may_assign frugal t ≡ true
+        → ((own_in k ≡ true → is_inert frugal t ≡ false) → NoOperationRunsOn (named.whole target) k) → Left k → Goes (assigning named tds t target source (now all k ms))
     assigning_on t target source inert all k may apart q = record {
       upper = ms;
       masters = refl;
       frugally = finalizing_frugal frugal behind among (named.whole target) (Assigning s.next) (record_tasks tds t WholeFirst (named.part_base target)) copied ms
-          (tt, refl, (own.0, own_copied, record { first = named.base source; record_type = t; to = named.base target; width = width_of tds t; rest = treating (named.whole target) (begins (Adjustment s.next) []) adjusted k; is = refl }, quiet_or_alone (is_inert frugal t) refl))
+          (tt, refl, (both.0, record { first = named.base source; record_type = t; to = named.base target; width = width_of tds t; rest = treating (named.whole target) (begins (Adjustment s.next) []) adjusted k; is = refl }, quiet_or_alone (is_inert frugal t) refl))
           (storing_frugal frugal behind among (named.whole target) (named.base target) (width_of tds t) (Adjustment s.next) [] adjusted k ms
           (unadjusted_or_alone (is_inert frugal t) refl) q);
     }
       where
-        own : (frugal.treats_parts ≡ true) × (own_in k ≡ true) × (((frugal.objects && frugal.untracked) || is_unadjusted frugal t) ≡ true)
-        own = assigned_parts frugal (own_in k) t may
+        both : (frugal.treats_parts ≡ true) × (((frugal.objects && frugal.untracked) || is_unadjusted frugal t) ≡ true)
+        both = assigned_parts frugal t may
 
         adjusted : List Task
         adjusted = record_tasks tds t PartsFirst (named.part_base target)
@@ -301,8 +301,8 @@ module _ (frugal : Allowance) (lower : List Master) (behind : Control) (among : 
         copied : Control
         copied = Copies (named.base source) t ∷ StoresRecord (named.whole target) (named.base target) (width_of tds t) ∷ treating (named.whole target) (begins (Adjustment s.next) []) adjusted k
 
-        own_copied : own_in copied ≡ true
-        own_copied = own_treating (named.whole target) (begins (Adjustment s.next) []) adjusted k ∙ own.1
+        own_copied : own_in k ≡ true → own_in copied ≡ true
+        own_copied own = own_treating (named.whole target) (begins (Adjustment s.next) []) adjusted k ∙ own
 
         alone_treating : (left : List Task) → NoOperationRunsOn (named.whole target) k → NoOperationRunsOn (named.whole target) (treating (named.whole target) (begins (Adjustment s.next) []) left k)
         alone_treating [] none = none
@@ -310,31 +310,39 @@ module _ (frugal : Allowance) (lower : List Master) (behind : Control) (among : 
 
         -- It is adjusted: no Adjust is called for that, or none tracks.
         known_unadjusted : is_unadjusted frugal t ≡ true → AdjustsThere frugal (named.whole target) (Adjustment s.next) adjusted k
-        known_unadjusted is = (tt, (own.0, (t, is, inert.0 t PartsFirst (named.part_base target)), tt))
+        known_unadjusted is = (tt, (both.0, (t, is, inert.0 t PartsFirst (named.part_base target)), tt))
 
         unadjusted_or_alone : (none : Bool) → is_inert frugal t ≡ none
             → BeginsThere frugal (named.whole target) (Adjustment s.next) k ⊎ AdjustsThere frugal (named.whole target) (Adjustment s.next) adjusted k
         unadjusted_or_alone true is = inr (known_unadjusted (and_parts (is_unfinalized frugal t) (is_unadjusted frugal t) is).1)
         unadjusted_or_alone false is =
-            elim (or_cases (frugal.objects && frugal.untracked) (is_unadjusted frugal t) own.2) [
-              | inl both ↦ let two = and_parts frugal.objects frugal.untracked both in inl (two.1, two.0, apart own.1 is)
+            elim (or_cases (frugal.objects && frugal.untracked) (is_unadjusted frugal t) both.1) [
+              | inl none ↦ let two = and_parts frugal.objects frugal.untracked none in inl (two.1, two.0, apart (λ own. is))
               | inr known ↦ inr (known_unadjusted known)
             ]
 
         quiet_or_alone : (none : Bool) → is_inert frugal t ≡ none
-            → AreKnown frugal.types frugal.unfinalized (record_tasks tds t WholeFirst (named.part_base target)) ⊎ NoOperationRunsOn (named.whole target) copied
-        quiet_or_alone true is = inl (t, (and_parts (is_unfinalized frugal t) (is_unadjusted frugal t) is).0, inert.0 t WholeFirst (named.part_base target))
-        quiet_or_alone false is = inr (alone_treating adjusted (apart own.1 is))
+            → ((own_in copied ≡ true) × AreKnown frugal.types frugal.unfinalized (record_tasks tds t WholeFirst (named.part_base target)))
+            ⊎ NoOperationRunsOn (named.whole target) copied
+        quiet_or_alone true is = by (own_in k) refl
+          where
+            by : (own : Bool) → own_in k ≡ own
+                → ((own_in copied ≡ true) × AreKnown frugal.types frugal.unfinalized (record_tasks tds t WholeFirst (named.part_base target)))
+                ⊎ NoOperationRunsOn (named.whole target) copied
+            by true own =
+                inl (own_copied own, (t, (and_parts (is_unfinalized frugal t) (is_unadjusted frugal t) is).0, inert.0 t WholeFirst (named.part_base target)))
+            by false called = inr (alone_treating adjusted (apart (λ own. absurd (cc (own, called)))))
+        quiet_or_alone false is = inr (alone_treating adjusted (apart (λ own. is)))
 
-    pub assigned_on : (t : ℕ) (target source : Value) (same : Option Bool) → named.same target source ≡ same → RecordIsInside frugal tds → (all : List (Activation Value)) → (k : Control) → may_assign frugal (own_in k) t ≡ true
-        → (own_in k ≡ true → is_inert frugal t ≡ false → (o : Id) (place : Place) → target ≡ Inside o place → NoOperationRunsOn (Names o) k) → Left k → Fine (assigns_next named tds t target source same (now all k ms))
+    pub assigned_on : (t : ℕ) (target source : Value) (same : Option Bool) → named.same target source ≡ same → RecordIsInside frugal tds → (all : List (Activation Value)) → (k : Control) → may_assign frugal t ≡ true
+        → ((own_in k ≡ true → is_inert frugal t ≡ false) → (o : Id) (place : Place) → target ≡ Inside o place → NoOperationRunsOn (Names o) k) → Left k → Fine (assigns_next named tds t target source same (now all k ms))
     assigned_on t target source None is inert all k may apart q = tt
     assigned_on t target source (Some true) is inert all k may apart q = on _ refl q
     assigned_on t Null source (Some false) is inert all k may apart q = absurd (cc is)
     assigned_on t (Names o) source (Some false) is inert all k may apart q = absurd (cc is)
     assigned_on t (Scalar n) source (Some false) is inert all k may apart q = absurd (cc is)
     assigned_on t (Inside o place) source (Some false) is inert all k may apart q =
-        assigning_on t (Inside o place) source inert all k may (λ own unfinalized. apart own unfinalized o place refl) q
+        assigning_on t (Inside o place) source inert all k may (λ calls. apart calls o place refl) q
 
     pub record_target_on : (o : Value) (first count : ℕ) (items : List ItemForm) (found : Found (Cell Value)) (all : List (Activation Value)) → (k : Control) → Left k → Fine (record_target_next named o first count items found (now all k ms))
     record_target_on o first count items on_null all k q = raises_on ConstraintError all k q
@@ -419,43 +427,43 @@ module _ (frugal : Allowance) (lower : List Master) (behind : Control) (among : 
         by false = tt
 
     -- Branches.
-    pub branches_on : (branches : BranchesForm) → (all : List (Activation Value)) → (k : Control) → are_thrifty_branches frugal (own_in k) branches ≡ true → Left k → Fine (branches_next named branches (now all k ms))
+    pub branches_on : (branches : BranchesForm) → (all : List (Activation Value)) → (k : Control) → are_thrifty_branches frugal branches ≡ true → Left k → Fine (branches_next named branches (now all k ms))
     branches_on (otherwise fs) all k thrifty q = on _ refl (thrifty, q)
     branches_on (a_branch e fs branches) all k thrifty q =
-        let both = apart (are_thrifty frugal (own_in k) fs) (are_thrifty_branches frugal (own_in k) branches) thrifty in
+        let both = apart (are_thrifty frugal fs) (are_thrifty_branches frugal branches) thrifty in
         on _ refl (tt, (both, q))
 
-    pub decided_on : (fs : StmtsForm) (branches : BranchesForm) (truth : Option Bool) → (all : List (Activation Value)) → (k : Control) → (are_thrifty frugal (own_in k) fs ≡ true) × (are_thrifty_branches frugal (own_in k) branches ≡ true) → Left k → Fine (decided_next named fs branches truth (now all k ms))
+    pub decided_on : (fs : StmtsForm) (branches : BranchesForm) (truth : Option Bool) → (all : List (Activation Value)) → (k : Control) → (are_thrifty frugal fs ≡ true) × (are_thrifty_branches frugal branches ≡ true) → Left k → Fine (decided_next named fs branches truth (now all k ms))
     decided_on fs branches None all k thrifty q = tt
     decided_on fs branches (Some true) all k thrifty q = on _ refl (thrifty.0, q)
     decided_on fs branches (Some false) all k thrifty q = branches_on branches all k thrifty.1 q
 
     -- Loops.
-    turn_on : (condition : Option ExpressionForm) (fs : StmtsForm) → (all : List (Activation Value)) → (k : Control) → are_thrifty frugal (own_in k) fs ≡ true → Left k → Fine (turn_next named condition fs (now all k ms))
+    turn_on : (condition : Option ExpressionForm) (fs : StmtsForm) → (all : List (Activation Value)) → (k : Control) → are_thrifty frugal fs ≡ true → Left k → Fine (turn_next named condition fs (now all k ms))
     turn_on condition no_stmts all k thrifty q = tt
     turn_on condition (a_stmt f fs) all k thrifty q = on _ refl (thrifty, (thrifty, q))
 
-    pub repeats_on : (condition : Option ExpressionForm) (fs : StmtsForm) → (all : List (Activation Value)) → (k : Control) → are_thrifty frugal (own_in k) fs ≡ true → Left k → Fine (repeats_next named condition fs (now all k ms))
+    pub repeats_on : (condition : Option ExpressionForm) (fs : StmtsForm) → (all : List (Activation Value)) → (k : Control) → are_thrifty frugal fs ≡ true → Left k → Fine (repeats_next named condition fs (now all k ms))
     repeats_on None fs all k thrifty q = turn_on None fs all k thrifty q
     repeats_on (Some e) fs all k thrifty q = on _ refl (tt, (thrifty, q))
 
-    pub turned_on : (e : ExpressionForm) (fs : StmtsForm) (truth : Option Bool) → (all : List (Activation Value)) → (k : Control) → are_thrifty frugal (own_in k) fs ≡ true → Left k → Fine (turned_next named e fs truth (now all k ms))
+    pub turned_on : (e : ExpressionForm) (fs : StmtsForm) (truth : Option Bool) → (all : List (Activation Value)) → (k : Control) → are_thrifty frugal fs ≡ true → Left k → Fine (turned_next named e fs truth (now all k ms))
     turned_on e fs None all k thrifty q = tt
     turned_on e fs (Some true) all k thrifty q = turn_on (Some e) fs all k thrifty q
     turned_on e fs (Some false) all k thrifty q = on _ refl q
 
-    count_turn_on : (x : ℕ) (value last : ℤ) (fs : StmtsForm) → (all : List (Activation Value)) → (k : Control) → are_thrifty frugal (own_in k) fs ≡ true → Left k → Fine (count_turn_next named x value last fs (now all k ms))
+    count_turn_on : (x : ℕ) (value last : ℤ) (fs : StmtsForm) → (all : List (Activation Value)) → (k : Control) → are_thrifty frugal fs ≡ true → Left k → Fine (count_turn_next named x value last fs (now all k ms))
     count_turn_on x value last no_stmts all k thrifty q = tt
     count_turn_on x value last (a_stmt f fs) all k thrifty q = on _ refl (thrifty, (thrifty, q))
 
-    pub counts_on : (x : ℕ) (value last : ℤ) (fs : StmtsForm) → (all : List (Activation Value)) → (k : Control) → are_thrifty frugal (own_in k) fs ≡ true → Left k → Fine (counts_next named x value last fs (now all k ms))
+    pub counts_on : (x : ℕ) (value last : ℤ) (fs : StmtsForm) → (all : List (Activation Value)) → (k : Control) → are_thrifty frugal fs ≡ true → Left k → Fine (counts_next named x value last fs (now all k ms))
     counts_on x value last fs all k thrifty q = by (int_le value last)
       where
         by : (b : Bool) → Fine (if b then count_turn_next named x value last fs (now all k ms) else moves Quiet (now all k ms))
         by true = count_turn_on x value last fs all k thrifty q
         by false = on _ refl q
 
-    pub ranges_on : (x : ℕ) (fs : StmtsForm) (low high : Option ℤ) → (all : List (Activation Value)) → (k : Control) → are_thrifty frugal (own_in k) fs ≡ true → Left k → Fine (ranges_next named x fs low high (now all k ms))
+    pub ranges_on : (x : ℕ) (fs : StmtsForm) (low high : Option ℤ) → (all : List (Activation Value)) → (k : Control) → are_thrifty frugal fs ≡ true → Left k → Fine (ranges_next named x fs low high (now all k ms))
     ranges_on x fs None high all k thrifty q = tt
     ranges_on x fs (Some low) None all k thrifty q = tt
     ranges_on x fs (Some low) (Some high) all k thrifty q = counts_on x low high fs all k thrifty q
@@ -492,10 +500,10 @@ module _ (frugal : Allowance) (lower : List Master) (behind : Control) (among : 
     line_on (Some i) all k q = on _ refl q
 
     -- A block is a master of its own.
-    encloses_on : (ds : List DeclarationForm) (fs : StmtsForm) (hs : HandlersForm) → (all : List (Activation Value)) → (k : Control) → (are_thrifty_declarations frugal ds && are_thrifty frugal (own_in k) fs && are_thrifty_handlers frugal (own_in k) hs) ≡ true → Left k → Goes (entered (at (Elaborates ds fs hs ∷ k) (now all k ms)))
+    encloses_on : (ds : List DeclarationForm) (fs : StmtsForm) (hs : HandlersForm) → (all : List (Activation Value)) → (k : Control) → (are_thrifty_declarations frugal ds && are_thrifty frugal fs && are_thrifty_handlers frugal hs) ≡ true → Left k → Goes (entered (at (Elaborates ds fs hs ∷ k) (now all k ms)))
     encloses_on ds fs hs all k thrifty q =
-        let one = apart (are_thrifty_declarations frugal ds && are_thrifty frugal (own_in k) fs) (are_thrifty_handlers frugal (own_in k) hs) thrifty in
-        let two = apart (are_thrifty_declarations frugal ds) (are_thrifty frugal (own_in k) fs) one.0 in
+        let one = apart (are_thrifty_declarations frugal ds && are_thrifty frugal fs) (are_thrifty_handlers frugal hs) thrifty in
+        let two = apart (are_thrifty_declarations frugal ds) (are_thrifty frugal fs) one.0 in
         record {
           upper = record { number = s.next; items = [] } ∷ ms;
           masters = refl;
@@ -544,16 +552,16 @@ module _ (frugal : Allowance) (lower : List Master) (behind : Control) (among : 
     computing_left (in_out_component path ∷ rest) k q = (tt, computing_left rest k q)
     computing_left (in_out_record p ∷ rest) k q = (tt, computing_left rest k q)
 
-    call_on : (number : ℕ) (actuals : List ActualForm) (found : Option BodyForm) → ((b : BodyForm) → found ≡ Some b → is_thrifty_body frugal false b ≡ true) → (all : List (Activation Value)) → (k : Control) → Left k → Fine (call_next named number actuals found (now all k ms))
+    call_on : (number : ℕ) (actuals : List ActualForm) (found : Option BodyForm) → ((b : BodyForm) → found ≡ Some b → is_thrifty_body frugal b ≡ true) → (all : List (Activation Value)) → (k : Control) → Left k → Fine (call_next named number actuals found (now all k ms))
     call_on number actuals None thrifty all k q = tt
     call_on number actuals (Some b) thrifty all k q = on _ refl (computing_left actuals (Calls number b actuals ∷ k) (thrifty b refl, q))
 
     -- The body that is called begins, in a master of its own.
-    pub begun_on : (number : ℕ) (b : BodyForm) (actuals : List ActualForm) (vs : List Value) → is_thrifty_body frugal false b ≡ true → (all : List (Activation Value)) → (k : Control) → Left k → Goes (begun named number b actuals vs (now all k ms))
+    pub begun_on : (number : ℕ) (b : BodyForm) (actuals : List ActualForm) (vs : List Value) → is_thrifty_body frugal b ≡ true → (all : List (Activation Value)) → (k : Control) → Left k → Goes (begun named number b actuals vs (now all k ms))
     begun_on number b actuals vs thrifty all k q = record {
       upper = record { number = s.next; items = [] } ∷ ms;
       masters = refl;
-      frugally = inl ((tt, thrifty_parts frugal (waits_first k) b (body_more frugal b thrifty (waits_first k))), inr (inl q));
+      frugally = inl ((tt, thrifty_parts frugal b thrifty), inr (inl q));
     }
 
     -- It has ended: what its caller gets back in components is stored next.
@@ -565,11 +573,11 @@ module _ (frugal : Allowance) (lower : List Master) (behind : Control) (among : 
     returned_on actuals references all k q = on _ refl (storing_left references k q)
 
     -- Statements.
-    pub stmt_on : (f : StmtForm) → ((number : ℕ) (b : BodyForm) → slice_get bodies number ≡ Some b → slice_index_or frugal.procedures number false ≡ true → is_thrifty_body frugal false b ≡ true) → RecordIsBare frugal.types tds → (all : List (Activation Value)) → (k : Control) → is_thrifty_stmt frugal (own_in k) f ≡ true → StmtIsFreely frugal tds f k s.heap (places_of all) → Left k → Fine (stmt_next named tds bodies f (now all k ms))
+    pub stmt_on : (f : StmtForm) → ((number : ℕ) (b : BodyForm) → slice_get bodies number ≡ Some b → slice_index_or frugal.procedures number false ≡ true → is_thrifty_body frugal b ≡ true) → RecordIsBare frugal.types tds → (all : List (Activation Value)) → (k : Control) → is_thrifty_stmt frugal f ≡ true → StmtIsFreely frugal tds f k s.heap (places_of all) → Left k → Fine (stmt_next named tds bodies f (now all k ms))
     stmt_on skips finds_frugal records_bare all k thrifty freely q = on _ refl q
     stmt_on (assigns target right) finds_frugal records_bare all k thrifty freely q = assigns_on target.selectors target.root right thrifty all k q
     stmt_on (assigns_record target items) finds_frugal records_bare all k thrifty freely q =
-        record_assign_on target items all k (has_parts tds target.record_type) (assigned_with (has_parts tds target.record_type) (not (is_some (finalization_of frugal.types target.record_type))) (may_assign frugal (own_in k) target.record_type) (records_bare target.record_type) thrifty) q
+        record_assign_on target items all k (has_parts tds target.record_type) (assigned_with (has_parts tds target.record_type) (not (is_some (finalization_of frugal.types target.record_type))) (may_assign frugal target.record_type) (records_bare target.record_type) thrifty) q
     stmt_on (frees access path) finds_frugal records_bare all k thrifty freely q = frees_on path.selectors access path.root all thrifty k freely q
     stmt_on (gets target) finds_frugal records_bare all k thrifty freely q = gets_on target.selectors target.root s.input all k q
     stmt_on (writes e) finds_frugal records_bare all k thrifty freely q = on _ refl (tt, (tt, q))
@@ -587,7 +595,7 @@ module _ (frugal : Allowance) (lower : List Master) (behind : Control) (among : 
   declaration_on : (m : Master) (ms : List Master) → AreOwnedBy frugal m.items → (d : DeclarationForm) (ds : List DeclarationForm) (fs : StmtsForm) (hs : HandlersForm)
       → is_thrifty_declaration frugal d ≡ true
       → (all : List (Activation Value)) → (k : Control)
-      → (are_thrifty_declarations frugal ds ≡ true) × (are_thrifty frugal (own_in k) fs ≡ true) × (are_thrifty_handlers frugal (own_in k) hs ≡ true)
+      → (are_thrifty_declarations frugal ds ≡ true) × (are_thrifty frugal fs ≡ true) × (are_thrifty_handlers frugal hs ≡ true)
       → (frugal.objects ≡ true → Unborn s.heap k) → FrugalLeads frugal behind among k ms
       → Fine (declarations_next named tds (d ∷ ds) fs hs (now all k (m ∷ ms)))
   declaration_on m ms own (creates_pool p) ds fs hs thrifty all k more unborn q = absurd (cc thrifty)

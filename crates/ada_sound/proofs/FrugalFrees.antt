@@ -326,10 +326,11 @@ module _ (frugal : Allowance) (tds : List TypeDefinition) where
   StmtIsFreely (frees access path) k heap places = path.selectors ≡ [] → IsFreely k (place_at places path.root) (standing heap (place_at places path.root))
   StmtIsFreely f k heap places = Unit {0}
 
-  -- Where the body of an operation assigns to a record for which an operation may be called, none runs of the object in which that lies (5.2).
+  -- Where a body assigns to a record, none runs of the object in which that lies (5.2), unless it is the body of an operation itself, and none is called for the
+  -- record.
   abbrev pub IsBeside : (record_type : ℕ) → Control → (operands : List Value) → Type 0
   IsBeside t k operands =
-      own_in k ≡ true → is_inert frugal t ≡ false → (o : Id) (place : Place) → first_or Null (older operands) ≡ Part o place → NoOperationRunsOn (Names o) k
+      (own_in k ≡ true → is_inert frugal t ≡ false) → (o : Id) (place : Place) → first_or Null (older operands) ≡ Part o place → NoOperationRunsOn (Names o) k
 
   abbrev pub AssignsBeside : Control → (operands : List Value) → Type 0
   AssignsBeside (Assigns t ∷ k) operands = IsBeside t k operands
@@ -387,12 +388,12 @@ module _ (frugal : Allowance) (tds : List TypeDefinition) where
   next_freely bare may behind among heap values results [] ms alone beside q freely own = tt
   next_freely bare may behind among heap values results (Does (a_stmt (frees access path) fs) ∷ k) ms alone beside q freely own =
       λ stands. is_freely bare may (IsFreedNext heap values results (Does (a_stmt (frees access path) fs) ∷ k)) heap (Does fs ∷ k) alone (place_at values path.root) access
-      (λ o names. (stands, names)) (apart (may_treat frugal access) (are_thrifty frugal (own_in k) fs) q.0).0 freely (own stands)
+      (λ o names. (stands, names)) (apart (may_treat frugal access) (are_thrifty frugal fs) q.0).0 freely (own stands)
   next_freely bare may behind among heap values results (FreesIn access c ∷ k) ms alone beside q freely own =
       λ cell w found there.
       is_freely bare may (IsFreedNext heap values results (FreesIn access c ∷ k)) heap k alone w access
       (λ o names. component_next heap (first_or Null results) c cell w o found there names) q.0 freely (own cell w found there)
-  next_freely bare may behind among heap values results (Assigns t ∷ k) ms alone beside q freely own = beside (assigned_parts frugal (own_in k) t q.0).0
+  next_freely bare may behind among heap values results (Assigns t ∷ k) ms alone beside q freely own = beside (assigned_parts frugal t q.0).0
   next_freely bare may behind among heap values results (f ∷ k) ms alone beside q freely own = tt
 
 -- Where bodies treat no objects with controlled parts, what is freed next has none.
@@ -400,7 +401,7 @@ pub frees_bare : (frugal : Allowance) → frugal.treats_parts ≡ false → (beh
     → Frugal frugal behind among mode k ms → FreesAmong (has_bare_objects frugal.types) k
 frees_bare frugal none behind among mode [] ms q = tt
 frees_bare frugal none behind among mode (Does (a_stmt (frees access path) fs) ∷ k) ms (inl q) =
-    let may = (apart (may_treat frugal access) (are_thrifty frugal (own_in k) fs) q.0).0 in rw none at may
+    let may = (apart (may_treat frugal access) (are_thrifty frugal fs) q.0).0 in rw none at may
 frees_bare frugal none behind among mode (Does (a_stmt (frees access path) fs) ∷ k) ms (inr (inl leaving)) = absurd leaving.1
 frees_bare frugal none behind among mode (Does (a_stmt (frees access path) fs) ∷ k) ms (inr (inr beginning)) = absurd beginning.1
 frees_bare frugal none behind among mode (FreesIn access c ∷ k) ms (inl q) = let may = q.0 in rw none at may

@@ -38,7 +38,7 @@ use Rattle.ada_meaning.specs.Heap.{PartState, Cell, Found, on_null, on_gone, on_
 use Rattle.ada_meaning.specs.State.{Activation, Master, home_of}
 use Rattle.ada_meaning.specs.Step.{all_tasks, halts, picks, treating, direction_of, picked_task, treated_on, operation_next, ended_next, finalized_next, performed_next, treats_next, first_or, places_of, operands_of, operand_count, newest_ones, with_operands, frame_next, landed, jump_next, mode_next, born_next, begun_next, beginning, older}
 use Rattle.ada_meaning.specs.Named.{Object, State, Next, named, next, look, lent, finalize}
-use Rattle.ada_quiet.proofs.FrugalAt.{frugal_called}
+use Rattle.ada_quiet.proofs.FrugalAt.{frugal_at}
 use Rattle.ada_quiet.specs.Idle.{holds_parts}
 use Rattle.ada_typed.proofs.Bodies.{own_bodies}
 use Rattle.ada_typed.proofs.Control as typed
@@ -49,7 +49,7 @@ use Rattle.ada_sound.specs.Agreement.{running_procedure}
 use Rattle.ada_sound.proofs.Calm.{ends_operation}
 use Rattle.ada_sound.proofs.Invariant.{Control}
 use Rattle.ada_sound.proofs.OperationStarts.{apart}
-use Rattle.ada_sound.proofs.FrugalControl.{AreKnown, EndsThere, LeavesThere, IsAdjusted, RecordIsInside, adjusting_frugal, finalizing_frugal, own_in, FrugalLeads, FrugalLeaves, MayLeave, Frugal, is_return_first, none_treated, none_left, treating_leads, treating_leaves, Frugally, GoesFrugally, BeginsThere, FrugalBegins, beginning_frugal, begins_first, leads_first, none_beginning, IsReplacing, IsAssigned, copies_first}
+use Rattle.ada_sound.proofs.FrugalControl.{AreKnown, EndsThere, LeavesThere, IsAdjusted, RecordIsInside, adjusting_frugal, finalizing_frugal, FrugalLeads, FrugalLeaves, MayLeave, Frugal, is_return_first, none_treated, none_left, treating_leads, treating_leaves, Frugally, GoesFrugally, BeginsThere, FrugalBegins, beginning_frugal, begins_first, leads_first, none_beginning, IsReplacing, IsAssigned, copies_first}
 use Rattle.ada_sound.proofs.InsideRecords.{object_inside, performed_inside, record_inside}
 use Rattle.ada_sound.proofs.Standing.{FreesAmong}
 use Rattle.ada_sound.proofs.Steps.{crosses}
@@ -59,20 +59,20 @@ use Rattle.ada_sound.proofs.FrugalFrames as frames
 use Rattle.ada_sound.proofs.FrugalFrames.{EndsCreated, may_leave}
 
 -- The statements of the handler that takes an exception.
-handler_frugal : (allowance : Allowance) (own : Bool) (hs : HandlersForm) (e : Exception) (fs : StmtsForm) → handler_of e hs ≡ Some fs → are_thrifty_handlers allowance own hs ≡ true → are_thrifty allowance own fs ≡ true
-handler_frugal allowance own no_handlers e fs is thrifty = absurd (cc is)
-handler_frugal allowance own (a_handler choices gs hs) e fs is thrifty = by (some_takes e choices) is (λ later more. handler_frugal allowance own hs e fs later more)
+handler_frugal : (allowance : Allowance) (hs : HandlersForm) (e : Exception) (fs : StmtsForm) → handler_of e hs ≡ Some fs → are_thrifty_handlers allowance hs ≡ true → are_thrifty allowance fs ≡ true
+handler_frugal allowance no_handlers e fs is thrifty = absurd (cc is)
+handler_frugal allowance (a_handler choices gs hs) e fs is thrifty = by (some_takes e choices) is (λ later more. handler_frugal allowance hs e fs later more)
   where
-    both : (are_thrifty allowance own gs ≡ true) × (are_thrifty_handlers allowance own hs ≡ true)
-    both = apart (are_thrifty allowance own gs) (are_thrifty_handlers allowance own hs) thrifty
+    both : (are_thrifty allowance gs ≡ true) × (are_thrifty_handlers allowance hs ≡ true)
+    both = apart (are_thrifty allowance gs) (are_thrifty_handlers allowance hs) thrifty
 
-    by : (b : Bool) → (if b then Some gs else handler_of e hs) ≡ Some fs → (handler_of e hs ≡ Some fs → are_thrifty_handlers allowance own hs ≡ true → are_thrifty allowance own fs ≡ true) → are_thrifty allowance own fs ≡ true
+    by : (b : Bool) → (if b then Some gs else handler_of e hs) ≡ Some fs → (handler_of e hs ≡ Some fs → are_thrifty_handlers allowance hs ≡ true → are_thrifty allowance fs ≡ true) → are_thrifty allowance fs ≡ true
     by true is' more = let same : gs ≡ fs = cc is' in rw (← same) both.0
     by false is' more = more is' both.1
 
 -- The body that a statement calls is frugal, where its procedure is.
 abbrev pub FindsFrugal : Allowance → List BodyForm → Type 0
-FindsFrugal allowance bodies = (number : ℕ) (b : BodyForm) → slice_get bodies number ≡ Some b → slice_index_or allowance.procedures number false ≡ true → is_thrifty_body allowance false b ≡ true
+FindsFrugal allowance bodies = (number : ℕ) (b : BodyForm) → slice_get bodies number ≡ Some b → slice_index_or allowance.procedures number false ≡ true → is_thrifty_body allowance b ≡ true
 
 -- No object is treated next (7.6.1).
 abbrev pub TreatsNothing : Control → Type 0
@@ -183,7 +183,7 @@ module _ (frugal : Allowance) (lower : List Master) (behind : Control) (among : 
       let target = first_or Null (operands_of (without all)) in
       let source = first_or Null (operands_of all) in
       frames.assigned_on frugal lower behind among tds bodies s ms t target source (named.same target source) refl records_inside (twice_without all) k may
-      (λ own unfinalized o place is. freely own unfinalized o place (sym (ap (first_or Null) (popped_are all)) ∙ is)) q
+      (λ calls o place is. freely calls o place (sym (ap (first_or Null) (popped_are all)) ∙ is)) q
   frame_on (Receives c) k ms all inner plain freely unborn (thrifty, q) =
       frames.receive_on frugal lower behind among tds bodies s ms (first_or Null (operands_of all)) c (look s.heap (first_or Null (operands_of all))) (without all) k q
   frame_on (FreesIn access c) k ms all inner plain freely unborn (thrifty, q) =
@@ -244,10 +244,10 @@ module _ (frugal : Allowance) (lower : List Master) (behind : Control) (among : 
   abbrev passing : Mode → List (Activation Value) → Control → List Master → State
   passing m all k ms = record s { mode = m; control = k; activations = all; masters = ms ++ lower }
 
-  handled_on : (e : Exception) (hs : HandlersForm) (found : Option StmtsForm) → handler_of e hs ≡ found → (k : Control) → are_thrifty_handlers frugal (own_in k) hs ≡ true → (ms : List Master) → (all : List (Activation Value)) → FrugalLeads frugal behind among k ms → Fine (landed named (handler_landing found) (Raising e) (passing (Raising e) all k ms))
+  handled_on : (e : Exception) (hs : HandlersForm) (found : Option StmtsForm) → handler_of e hs ≡ found → (k : Control) → are_thrifty_handlers frugal hs ≡ true → (ms : List Master) → (all : List (Activation Value)) → FrugalLeads frugal behind among k ms → Fine (landed named (handler_landing found) (Raising e) (passing (Raising e) all k ms))
   handled_on e hs None is k thrifty ms all q = frames.on frugal lower behind among tds bodies s ms _ refl q
   handled_on e hs (Some no_stmts) is k thrifty ms all q = tt
-  handled_on e hs (Some (a_stmt f fs)) is k thrifty ms all q = frames.on frugal lower behind among tds bodies s ms _ refl (handler_frugal frugal (own_in k) hs e (a_stmt f fs) is thrifty, q)
+  handled_on e hs (Some (a_stmt f fs)) is k thrifty ms all q = frames.on frugal lower behind among tds bodies s ms _ refl (handler_frugal frugal hs e (a_stmt f fs) is thrifty, q)
 
   raising_on : (e : Exception) (f : Frame Value) (k : Control) (ms : List Master) → (all : List (Activation Value)) → IsInner f k ms → FrugalLeads frugal behind among (f ∷ k) ms → Fine (jump_next named (Raising e) (f ∷ k) (passing (Raising e) all (f ∷ k) ms))
   raising_on e (Elaborates ds fs hs) k [] all inner q = absurd q
@@ -402,7 +402,7 @@ frugal_goes program whole lower behind among s f inner none typing may frees alo
     let p = program_form program in
     let procedure = running_procedure s in
     frugal_steps (seen_in procedure p) (own_bodies p whole procedure) program.types.items (body_forms program) (allowance_of p) (bare_by program) (records_bare_by program) (record_inside program, object_inside program)
-    (λ number b there told. body_thrifty p false b (frugal_called p number b told there)) (λ created. refl) behind among lower s f inner none typing may frees
+    (λ number b there told. body_thrifty p b (frugal_at p number b told there)) (λ created. refl) behind among lower s f inner none typing may frees
     (λ treats_parts. alone) (λ created. unborn) (λ created. left) (λ treats_parts. beside)
 
 -- Where a record is adjusted of which no Adjust is overridden, none is called; and where one is finalized of which no Finalize is, none of these (7.6).
@@ -434,7 +434,7 @@ no_tasks_inert frugal known tasks inert = (inert.0, inert.1, tt)
 -- A record of an object is assigned to, and no operation of that runs.
 abbrev pub ReplacesThere : (frugal : Allowance) → Value → Cause → Control → Type 0
 ReplacesThere frugal v cause k =
-    IsAssigned cause × (copies_first k ≡ true) × (frugal.treats_parts ≡ true) × (own_in k ≡ true) × IsReplacing v k × NoOperationRunsOn v k
+    IsAssigned cause × (copies_first k ≡ true) × (frugal.treats_parts ≡ true) × IsReplacing v k × NoOperationRunsOn v k
 
 -- An object is freed or undone, or its master is left, or a record of it is assigned to, or it begins, and no operation of it runs behind; and then this is
 -- left to do.
@@ -645,20 +645,20 @@ treats_frugally frugal lower back among tds bodies s inert_calls inert_picked f 
       where
         so : (born : List Part) (left : List Task) → AreKnown frugal.types frugal.unadjusted left → Frugal frugal back among s.mode (treating v (begins how born) left k) f.upper
         so born left inert = rw runs (adjusting_frugal frugal back among v how born left k f.upper (adjusting.0, (adjusting.1.0, inert, adjusting.1.2)) q)
-    by_frugal (ends cause) (inr (inr (may, ((assigns, copies, (treats, own, replacing, inr alone)), q)))) =
+    by_frugal (ends cause) (inr (inr (may, ((assigns, copies, (treats, replacing, inr alone)), q)))) =
         treats_on frugal lower back among tds bodies s (IsTreated frugal back among v k f.upper (ends cause)) v k
-        (inr (inr ((assigns, copies, treats, own, replacing, alone), q))) cause so tasks (task_next tasks)
+        (inr (inr ((assigns, copies, treats, replacing, alone), q))) cause so tasks (task_next tasks)
       where
         so : (heap : List Object) (left : List Task) → GoesOrBegins frugal lower back among tds bodies s (IsTreated frugal back among v k f.upper (ends cause)) (record s { heap = heap; control = treating v (ends cause) left k })
         so heap left = inl (
           record {
             upper = f.upper;
             masters = f.masters;
-            frugally = rw runs (finalizing_frugal frugal back among v cause left k f.upper (assigns, copies, (treats, own, replacing, inr alone)) q);
+            frugally = rw runs (finalizing_frugal frugal back among v cause left k f.upper (assigns, copies, (treats, replacing, inr alone)) q);
           },
           refl,
         )
-    by_frugal (ends cause) (inr (inr (may, ((assigns, copies, (treats, own, replacing, inl known)), q)))) =
+    by_frugal (ends cause) (inr (inr (may, ((assigns, copies, (treats, replacing, inl (own, known))), q)))) =
         inert_treats_on frugal lower back among tds bodies s (IsTreated frugal back among v k f.upper (ends cause)) v k inert_calls inert_picked cause so tasks known (task_next tasks) refl
       where
         so : (heap : List Object) (left : List Task) → AreKnown frugal.types frugal.unfinalized left → GoesOrBegins frugal lower back among tds bodies s (IsTreated frugal back among v k f.upper (ends cause)) (record s { heap = heap; control = treating v (ends cause) left k })
@@ -666,7 +666,7 @@ treats_frugally frugal lower back among tds bodies s inert_calls inert_picked f 
           record {
             upper = f.upper;
             masters = f.masters;
-            frugally = rw runs (finalizing_frugal frugal back among v cause left k f.upper (assigns, copies, (treats, own, replacing, inl inert)) q);
+            frugally = rw runs (finalizing_frugal frugal back among v cause left k f.upper (assigns, copies, (treats, replacing, inl (own, inert))) q);
           },
           refl,
         )

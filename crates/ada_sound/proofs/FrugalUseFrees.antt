@@ -149,12 +149,12 @@ module _ (p : ProgramForm) (types_fit : list_all (type_fits p.types) p.types ≡
             (not_so (leaving_frees (implicit_of p) t ds) (leaving_spares ds is)) some) h
 
         mutual
-          stmt_bare : (inside : Bool) (f : StmtForm) → is_thrifty_stmt (simple_allowance p.types) false f ≡ true → statement_fits p.types variables p.texts p.exceptions callable inside f ≡ true
+          stmt_bare : (inside : Bool) (f : StmtForm) → is_thrifty_stmt (simple_allowance p.types) f ≡ true → statement_fits p.types variables p.texts p.exceptions callable inside f ≡ true
               → stmt_frees p.types variables effects t f ≡ true → IsBare t
           stmt_bare inside skips is fits h = absurd (cc h)
           stmt_bare inside (assigns target right) is fits h = not_so (right_frees (implicit_of p) t right) (right_spares right is) h
           stmt_bare inside (assigns_record target items) is fits h =
-              not_so (assignment_frees (implicit_of p) t target.record_type) (assignment_spares variables target (apart _ _ fits).0 (bare_assigned (simple_allowance p.types) target.record_type is)) h
+              not_so (assignment_frees (implicit_of p) t target.record_type) (assignment_spares variables target (apart _ _ fits).0 (bare_assigned (simple_allowance p.types) refl target.record_type is)) h
           stmt_bare inside (frees access path) is fits h = freed_bare access (path_access p.types variables path) (apart _ _ fits).0 is h
           stmt_bare inside (gets target) is fits h = absurd (cc h)
           stmt_bare inside (writes e) is fits h = absurd (cc h)
@@ -173,7 +173,7 @@ module _ (p : ProgramForm) (types_fit : list_all (type_fits p.types) p.types ≡
               let fits_three = apart _ _ fits_two.0 in
               block_bare ds fs hs three.0 (λ some. stmts_bare inside fs three.1 fits_three.1 some) (λ some. handlers_bare inside hs two.1 fits_two.1 some) h
 
-          stmts_bare : (inside : Bool) (fs : StmtsForm) → are_thrifty (simple_allowance p.types) false fs ≡ true → stmts_fit p.types variables p.texts p.exceptions callable inside fs ≡ true
+          stmts_bare : (inside : Bool) (fs : StmtsForm) → are_thrifty (simple_allowance p.types) fs ≡ true → stmts_fit p.types variables p.texts p.exceptions callable inside fs ≡ true
               → stmts_free p.types variables effects t fs ≡ true → IsBare t
           stmts_bare inside no_stmts is fits h = absurd (cc h)
           stmts_bare inside (a_stmt f fs) is fits h =
@@ -181,7 +181,7 @@ module _ (p : ProgramForm) (types_fit : list_all (type_fits p.types) p.types ≡
               let two = apart _ _ fits in
               either (stmt_frees p.types variables effects t f) (stmts_free p.types variables effects t fs) (λ some. stmt_bare inside f both.0 two.0 some) (λ some. stmts_bare inside fs both.1 two.1 some) h
 
-          branches_bare : (inside : Bool) (branches : BranchesForm) → are_thrifty_branches (simple_allowance p.types) false branches ≡ true
+          branches_bare : (inside : Bool) (branches : BranchesForm) → are_thrifty_branches (simple_allowance p.types) branches ≡ true
               → branches_fit p.types variables p.texts p.exceptions callable inside branches ≡ true → branches_free p.types variables effects t branches ≡ true → IsBare t
           branches_bare inside (otherwise fs) is fits h = stmts_bare inside fs is fits h
           branches_bare inside (a_branch e fs branches) is fits h =
@@ -191,7 +191,7 @@ module _ (p : ProgramForm) (types_fit : list_all (type_fits p.types) p.types ≡
               either (stmts_free p.types variables effects t fs) (branches_free p.types variables effects t branches) (λ some. stmts_bare inside fs both.0 three.1 some)
               (λ some. branches_bare inside branches both.1 two.1 some) h
 
-          handlers_bare : (inside : Bool) (hs : HandlersForm) → are_thrifty_handlers (simple_allowance p.types) false hs ≡ true
+          handlers_bare : (inside : Bool) (hs : HandlersForm) → are_thrifty_handlers (simple_allowance p.types) hs ≡ true
               → handlers_fit p.types variables p.texts p.exceptions callable inside hs ≡ true → handlers_free p.types variables effects t hs ≡ true → IsBare t
           handlers_bare inside no_handlers is fits h = absurd (cc h)
           handlers_bare inside (a_handler choices fs hs) is fits h =
@@ -202,7 +202,7 @@ module _ (p : ProgramForm) (types_fit : list_all (type_fits p.types) p.types ≡
               (λ some. handlers_bare inside hs both.1 two.1 some) h
 
       -- So it is with a body.
-      body_bare : (b : BodyForm) → is_thrifty_body (simple_allowance p.types) false b ≡ true → body_fits p.types p.texts p.exceptions callable b ≡ true → body_frees p.types effects b t ≡ true → IsBare t
+      body_bare : (b : BodyForm) → is_thrifty_body (simple_allowance p.types) b ≡ true → body_fits p.types p.texts p.exceptions callable b ≡ true → body_frees p.types effects b t ≡ true → IsBare t
       body_bare b is fits h =
           let two = apart _ _ is in
           let three = apart _ _ two.0 in
@@ -212,7 +212,7 @@ module _ (p : ProgramForm) (types_fit : list_all (type_fits p.types) p.types ≡
           (λ some. handlers_bare b.variables false b.handlers two.1 five.1 some) h
 
 -- What is known of such a body says so.
-pub covered_bare : (p : ProgramForm) → IsWellFormed p → (number : ℕ) (b : BodyForm) → slice_get p.bodies number ≡ Some b → is_thrifty_body (simple_allowance p.types) false b ≡ true → (t : ℕ)
+pub covered_bare : (p : ProgramForm) → IsWellFormed p → (number : ℕ) (b : BodyForm) → slice_get p.bodies number ≡ Some b → is_thrifty_body (simple_allowance p.types) b ≡ true → (t : ℕ)
     → CoveredIn (implicit_of p) (seen_in (Some number) p) t → has_bare_objects p.types t ≡ true
 covered_bare p well number b there simple t covered =
     let callable = [] ++ map profile_of (take number p.bodies) in

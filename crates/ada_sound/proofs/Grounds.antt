@@ -125,9 +125,9 @@ pub record Grounds (program : Program) (s : State) : Type 0 where
   -- so has a record to which the body of an operation assigns, behind which no other one of its object runs
   pub assigned : (v : Value) (number : ℕ) (tasks : List Task) (first t : ℕ) (k : Control) → s.control ≡ frame.Treats v (ends (Assigning number)) tasks ∷ frame.Copies first t ∷ k
       → RunsAlone v k → Halts program s (Erroneous FinalizesTwice) → ⊥
-  -- and where it assigns to one for which an operation may be called, none runs of the object in which that lies
-  pub beside : s.mode ≡ Running → (t : ℕ) (k : Control) → s.control ≡ frame.Assigns t ∷ k → is_of_operation k ≡ true
-      → is_inert (thrift_of (program_form program)) t ≡ false → (o : Id) (place : Place)
+  -- and where a body assigns to one, none runs of the object in which that lies, unless it is that of an operation itself, and none is called for the record
+  pub beside : s.mode ≡ Running → (t : ℕ) (k : Control) → s.control ≡ frame.Assigns t ∷ k
+      → (is_of_operation k ≡ true → is_inert (thrift_of (program_form program)) t ≡ false) → (o : Id) (place : Place)
       → first_or Null (older (operands s)) ≡ Part o place → NoOperationRunsOn (Names o) k
   -- where no operation runs, nothing is treated behind what is treated, but a record that is assigned to
   pub untreated_end : NoOperationRuns s.control → (v w : Value) (cause : Cause) (tasks : List Task) (k : Control)

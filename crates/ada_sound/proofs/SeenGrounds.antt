@@ -345,8 +345,8 @@ module _ (program : Program) {types : List ℕ} {item : ℕ} {ghosts : Id → Bo
             grounds.assigned w number tasks first t k here alone
             (halts_so ghosts (next tds bodies s) (next tds bodies v) (Erroneous FinalizesTwice)
             (steps_alike tds bodies none_hidden ghosts s v (untouched w (frame.ends (Assigning number)) tasks (frame.Copies first t ∷ k) here) seen.alike) twice);
-        beside = λ runs t k is own calls o place target.
-            grounds.beside (sym (seen_mode seen) ∙ runs) t k (sym (seen_control seen) ∙ is) own calls o place
+        beside = λ runs t k is calls o place target.
+            grounds.beside (sym (seen_mode seen) ∙ runs) t k (sym (seen_control seen) ∙ is) calls o place
             (ap (λ (acts : List (Activation Value)). first_or Null (older (operands_of acts))) (sym (seen_activations seen)) ∙ target);
         untreated_end = λ still w u cause tasks k is. grounds.untreated_end (subst NoOperationRuns (seen_control seen) still) w u cause tasks k (sym (seen_control seen) ∙ is);
         untreated_start = λ still w by done tasks k is. grounds.untreated_start (subst NoOperationRuns (seen_control seen) still) w by done tasks k (sym (seen_control seen) ∙ is);

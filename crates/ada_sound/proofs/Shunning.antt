@@ -17,7 +17,8 @@ use Rattle.ada_quiet.specs.Bare.{has_bare_objects}
 use Rattle.ada_quiet.specs.Idle.{has_parts, holds_parts}
 use Rattle.ada_quiet.specs.Apart.{is_bare_item, leave_access}
 use Rattle.ada_quiet.specs.Calm.{is_known_calm, unadjusted_types}
-use Rattle.ada_quiet.specs.Frugal.{assigns_at_hand, allocates_frugally, is_bare_initial, is_copied_initial, is_unadjusted, is_unadjusted_named, is_unadjusted_initial, thrift_of, frugal_procedures, is_frugal_declaration, are_frugal_declarations, is_frugal_stmt, are_frugal, are_frugal_branches, are_frugal_handlers, is_frugal_body, is_inert, is_copied}
+use Rattle.ada_quiet.proofs.FrugalAt.{thrift_at}
+use Rattle.ada_quiet.specs.Frugal.{assigns_at_hand, is_formal, allocates_frugally, is_bare_initial, is_copied_initial, is_unadjusted, is_unadjusted_named, is_unadjusted_initial, frugal_procedures, is_frugal_declaration, are_frugal_declarations, is_frugal_stmt, are_frugal, are_frugal_branches, are_frugal_handlers, is_frugal_body, is_inert, is_copied}
 use Rattle.ada_deeds.specs.declared.deed.Callee.{Callee}
 use Rattle.ada_deeds.specs.declared.deed.Callee.TheVariants as callee
 use Rattle.ada_deeds.specs.declared.deed.Deed.{Deed}
@@ -197,7 +198,7 @@ module _ (p : ProgramForm) (shuns : ℕ → Bool) where
     -- What is assigned has the shape: what is allocated has no controlled parts, or is initialized by default, and that is no use (5.2, 4.8, 7.6).
     right_shaped :
         (kind : Option VariableKind) (right : RightForm) → KindFits p.types kind → right_fits p.types variables kind right ≡ true
-        → allocates_frugally (thrift_of p) right ≡ true → Spares p shuns (λ d. right_does p.types variables (does_by p d) d right)
+        → allocates_frugally (thrift_at p) right ≡ true → Spares p shuns (λ d. right_does p.types variables (does_by p d) d right)
         → right_shuns p.types (λ t. false) apart variables right ≡ true
     right_shaped kind nothing known fits is spares = refl
     right_shaped kind (value_of path) known fits is spares = path_shaped p.types apart variables path
@@ -212,7 +213,7 @@ module _ (p : ProgramForm) (shuns : ℕ → Bool) where
     right_shaped kind (computes e) known fits is spares = expression_shaped p.types apart variables e
 
     -- Records of a type that is known to override no Adjust may get their values from others.
-    named_shaped : (o : Option ℕ) → is_unadjusted_named (thrift_of p) o ≡ true → may_copy_named apart o ≡ true
+    named_shaped : (o : Option ℕ) → is_unadjusted_named (thrift_at p) o ≡ true → may_copy_named apart o ≡ true
     named_shaped None is = absurd (cc is)
     named_shaped (Some t) is = quietly t is
 
@@ -250,7 +251,7 @@ module _ (p : ProgramForm) (shuns : ℕ → Bool) where
 
     -- A declaration has it (3.3.1): that of a variable,
     declaration_shaped :
-        (c : DeclarationForm) → initial_fits p.types variables c ≡ true → is_frugal_declaration (thrift_of p) c ≡ true
+        (c : DeclarationForm) → initial_fits p.types variables c ≡ true → is_frugal_declaration (thrift_at p) c ≡ true
         → Spares p shuns (λ d. declaration_does p.types variables (does_by p d) d c) → Spares p shuns (λ d. ending_does p.types (does_by p d) c)
         → declaration_shuns p.types (λ t. false) apart variables c ≡ true
     declaration_shaped (creates_pool pool) fits is spares ends = absurd (cc is)
@@ -285,9 +286,9 @@ module _ (p : ProgramForm) (shuns : ℕ → Bool) where
         let same = object_at p.types object (object_type p.types types_fit variables variables_fit kind object held known) in
         let left = subst (λ (o : Option ℕ). Spares p shuns (λ d. parts_do (does_by p d) Finalize o)) (sym same) ends in
         and_from (may_fill p.types apart object) (list_all test items)
-        (elim (or_cases (is_bare_initial p.types object items) (is_copied_initial (thrift_of p) object) is) [
+        (elim (or_cases (is_bare_initial p.types object items) (is_copied_initial (thrift_at p) object) is) [
           | inl bare_so ↦ or_left bare (apart.ends object && named) (and_parts bare (list_all (is_bare_item p.types) items) bare_so).0
-          | inr copied_so ↦ elim (or_cases (leave_access p.types) (is_unadjusted_initial (thrift_of p) object) copied_so) [
+          | inr copied_so ↦ elim (or_cases (leave_access p.types) (is_unadjusted_initial (thrift_at p) object) copied_so) [
             | inl none ↦
                 let filled = right_holds (list_all (item_before x) items) (object_fits p.types variables (object_named p.types (Some object)) items)
                 (right_holds (is_record_object object kind) (record_initial_fits p.types variables x (object_named p.types (Some object)) (Some items)) fits) in
@@ -301,12 +302,12 @@ module _ (p : ProgramForm) (shuns : ℕ → Bool) where
 
     -- So have all declarations of such a body.
     declarations_shaped :
-        (cs : List DeclarationForm) → list_all (initial_fits p.types variables) cs ≡ true → are_frugal_declarations (thrift_of p) cs ≡ true
+        (cs : List DeclarationForm) → list_all (initial_fits p.types variables) cs ≡ true → are_frugal_declarations (thrift_at p) cs ≡ true
         → Spares p shuns (λ d. declarations_do p.types variables (does_by p d) d cs) → Spares p shuns (λ d. leaving_does p.types (does_by p d) cs)
         → declarations_shun p.types (λ t. false) apart variables cs ≡ true
     declarations_shaped [] fits is spares ends = refl
     declarations_shaped (c ∷ cs) fits is spares ends =
-        let both = and_parts (is_frugal_declaration (thrift_of p) c) (are_frugal_declarations (thrift_of p) cs) is in
+        let both = and_parts (is_frugal_declaration (thrift_at p) c) (are_frugal_declarations (thrift_at p) cs) is in
         let fit = and_parts (initial_fits p.types variables c) (list_all (initial_fits p.types variables) cs) fits in
         let one = λ (d : Deed). declaration_does p.types variables (does_by p d) d c in
         let more = λ (d : Deed). declarations_do p.types variables (does_by p d) d cs in
@@ -331,16 +332,16 @@ module _ (p : ProgramForm) (shuns : ℕ → Bool) where
     -- where its statements and its handlers have it.
     master_shaped :
         (ds : List DeclarationForm) (fs : StmtsForm) (hs : HandlersForm) → list_all (initial_fits p.types variables) ds ≡ true
-        → (are_frugal (thrift_of p) fs ≡ true → Spares p shuns (λ d. stmts_do p.types variables (does_by p d) d fs)
+        → (are_frugal (thrift_at p) fs ≡ true → Spares p shuns (λ d. stmts_do p.types variables (does_by p d) d fs)
         → statements_shun p.types (λ t. false) apart variables fs ≡ true)
-        → (are_frugal_handlers (thrift_of p) hs ≡ true → Spares p shuns (λ d. handlers_do p.types variables (does_by p d) d hs)
+        → (are_frugal_handlers (thrift_at p) hs ≡ true → Spares p shuns (λ d. handlers_do p.types variables (does_by p d) d hs)
         → handlers_shun p.types (λ t. false) apart variables hs ≡ true)
-        → (are_frugal_declarations (thrift_of p) ds && are_frugal (thrift_of p) fs && are_frugal_handlers (thrift_of p) hs) ≡ true
+        → (are_frugal_declarations (thrift_at p) ds && are_frugal (thrift_at p) fs && are_frugal_handlers (thrift_at p) hs) ≡ true
         → Spares p shuns (master_does ds fs hs) → master_shuns ds fs hs ≡ true
     master_shaped ds fs hs fit within behind frugal spares =
-        let begun = are_frugal_declarations (thrift_of p) ds in
-        let parts = and_parts (begun && are_frugal (thrift_of p) fs) (are_frugal_handlers (thrift_of p) hs) frugal in
-        let inner = and_parts begun (are_frugal (thrift_of p) fs) parts.0 in
+        let begun = are_frugal_declarations (thrift_at p) ds in
+        let parts = and_parts (begun && are_frugal (thrift_at p) fs) (are_frugal_handlers (thrift_at p) hs) frugal in
+        let inner = and_parts begun (are_frugal (thrift_at p) fs) parts.0 in
         let declared = λ (d : Deed). declarations_do p.types variables (does_by p d) d ds in
         let inside = λ (d : Deed). stmts_do p.types variables (does_by p d) d fs in
         let left = λ (d : Deed). is_left hs d && inside d in
@@ -357,7 +358,7 @@ module _ (p : ProgramForm) (shuns : ℕ → Bool) where
     mutual
       -- A frugal statement has the shape, where what it does is no use,
       statement_shaped :
-          (inside : Bool) (f : StmtForm) → statement_fits p.types variables texts exceptions callable inside f ≡ true → is_frugal_stmt (thrift_of p) f ≡ true
+          (inside : Bool) (f : StmtForm) → statement_fits p.types variables texts exceptions callable inside f ≡ true → is_frugal_stmt (thrift_at p) f ≡ true
           → Spares p shuns (λ d. stmt_does p.types variables (does_by p d) d f) → statement_shuns p.types (λ t. false) apart variables f ≡ true
       statement_shaped inside skips fits frugal spares = refl
       statement_shaped inside (assigns target right) fits frugal spares =
@@ -379,22 +380,22 @@ module _ (p : ProgramForm) (shuns : ℕ → Bool) where
           -- A record is of a type without controlled parts, or of one for which no Adjust is called, and whose end is no use.
           assigned :
               (f : Option Finalization) → finalization_of p.types target.record_type ≡ f
-              → (if is_some f then assigns_at_hand (thrift_of p) target else list_all (is_bare_item p.types) items) ≡ true
+              → (if is_some f then assigns_at_hand (thrift_at p) target else list_all (is_bare_item p.types) items) ≡ true
               → (not (is_some f) || may_replace apart target.record_type) ≡ true
           assigned None is h = refl
           assigned (Some f) is h =
               let t = target.record_type in
-              let known = is_copied (thrift_of p) t in
+              let known = is_copied (thrift_at p) t in
               let near = not (record_path_raises target) in
               let three =
-              and_parts (true && known && near) (not (target.object.root == 0) || (is_inert (thrift_of p) t && not (target.part == 0))) h in
-              let two = and_parts (true && known) near three.0 in
+              and_parts (known && near) (not (is_formal (thrift_at p) target.object.root) || (true && is_inert (thrift_at p) t && not (target.part == 0))) h in
+              let two = and_parts known near three.0 in
               let adjusted = λ (d : Deed). parts_do (does_by p d) Adjust (Some t) in
               let ended_so = λ (d : Deed). parts_do (does_by p d) Finalize (Some t) in
               let evaluated = λ (d : Deed). record_path_does p.types variables d target || items_do p.types variables (does_by p d) d items in
               and_from (apart.assigns t) (apart.copies t)
               (overwritten t f is (second adjusted ended_so (second evaluated (λ d. adjusted d || ended_so d) spares)))
-              (elim (or_cases (leave_access p.types) (is_unadjusted (thrift_of p) t) (and_parts true known two.0).1) [
+              (elim (or_cases (leave_access p.types) (is_unadjusted (thrift_at p) t) two.0) [
                 | inl none ↦ copied none t (first adjusted ended_so (second evaluated (λ d. adjusted d || ended_so d) spares))
                 | inr calm ↦ quietly t calm
               ])
@@ -451,11 +452,11 @@ module _ (p : ProgramForm) (shuns : ℕ → Bool) where
 
       -- and so have statements,
       statements_shaped :
-          (inside : Bool) (fs : StmtsForm) → stmts_fit p.types variables texts exceptions callable inside fs ≡ true → are_frugal (thrift_of p) fs ≡ true
+          (inside : Bool) (fs : StmtsForm) → stmts_fit p.types variables texts exceptions callable inside fs ≡ true → are_frugal (thrift_at p) fs ≡ true
           → Spares p shuns (λ d. stmts_do p.types variables (does_by p d) d fs) → statements_shun p.types (λ t. false) apart variables fs ≡ true
       statements_shaped inside no_stmts fits frugal spares = refl
       statements_shaped inside (a_stmt f fs) fits frugal spares =
-          let both = and_parts (is_frugal_stmt (thrift_of p) f) (are_frugal (thrift_of p) fs) frugal in
+          let both = and_parts (is_frugal_stmt (thrift_at p) f) (are_frugal (thrift_at p) fs) frugal in
           let here = statement_fits p.types variables texts exceptions callable inside f in
           let fit = and_parts here (stmts_fit p.types variables texts exceptions callable inside fs) fits in
           let one = λ (d : Deed). stmt_does p.types variables (does_by p d) d f in
@@ -466,11 +467,11 @@ module _ (p : ProgramForm) (shuns : ℕ → Bool) where
       -- branches (5.3)
       branches_shaped :
           (inside : Bool) (branches : BranchesForm) → branches_fit p.types variables texts exceptions callable inside branches ≡ true
-          → are_frugal_branches (thrift_of p) branches ≡ true → Spares p shuns (λ d. branches_do p.types variables (does_by p d) d branches)
+          → are_frugal_branches (thrift_at p) branches ≡ true → Spares p shuns (λ d. branches_do p.types variables (does_by p d) d branches)
           → branches_shun p.types (λ t. false) apart variables branches ≡ true
       branches_shaped inside (otherwise fs) fits frugal spares = statements_shaped inside fs fits frugal spares
       branches_shaped inside (a_branch e fs branches) fits frugal spares =
-          let both = and_parts (are_frugal (thrift_of p) fs) (are_frugal_branches (thrift_of p) branches) frugal in
+          let both = and_parts (are_frugal (thrift_at p) fs) (are_frugal_branches (thrift_at p) branches) frugal in
           let typed = has_type p.types variables Boolean e in
           let stated = stmts_fit p.types variables texts exceptions callable inside fs in
           let later = and_parts (typed && stated) (branches_fit p.types variables texts exceptions callable inside branches) fits in
@@ -487,11 +488,11 @@ module _ (p : ProgramForm) (shuns : ℕ → Bool) where
       -- and handlers (11.2).
       handlers_shaped :
           (inside : Bool) (hs : HandlersForm) → handlers_fit p.types variables texts exceptions callable inside hs ≡ true
-          → are_frugal_handlers (thrift_of p) hs ≡ true → Spares p shuns (λ d. handlers_do p.types variables (does_by p d) d hs)
+          → are_frugal_handlers (thrift_at p) hs ≡ true → Spares p shuns (λ d. handlers_do p.types variables (does_by p d) d hs)
           → handlers_shun p.types (λ t. false) apart variables hs ≡ true
       handlers_shaped inside no_handlers fits frugal spares = refl
       handlers_shaped inside (a_handler choices fs hs) fits frugal spares =
-          let both = and_parts (are_frugal (thrift_of p) fs) (are_frugal_handlers (thrift_of p) hs) frugal in
+          let both = and_parts (are_frugal (thrift_at p) fs) (are_frugal_handlers (thrift_at p) hs) frugal in
           let chosen = list_all (choice_fits exceptions) choices && has_statement fs in
           let stated = stmts_fit p.types variables texts exceptions callable inside fs in
           let later = and_parts (chosen && stated) (handlers_fit p.types variables texts exceptions callable inside hs) fits in
@@ -504,7 +505,7 @@ module _ (p : ProgramForm) (shuns : ℕ → Bool) where
   -- So has such a body, as the program that it sees fits.
   pub body_shaped :
       (apart : Apart) → CallsFrugal apart → EndsSpared apart → StartsSpared apart → AssignsSpared apart → CopiesInert apart → CopiesSpared apart → (number : ℕ) (b : BodyForm) → SeenFits (seen_by number b p)
-      → is_frugal_body (thrift_of p) b ≡ true → Spares p shuns (λ d. body_does p.types (does_by p d) d b) → body_shuns p.types (λ t. false) apart b ≡ true
+      → is_frugal_body (thrift_at p) b ≡ true → Spares p shuns (λ d. body_does p.types (does_by p d) d b) → body_shuns p.types (λ t. false) apart b ≡ true
   body_shaped apart marked ended started overwritten quietly copied number b fits =
       let callable = callable_in (seen_by number b p) in
       master_shaped apart marked ended started overwritten quietly copied fits.types_fit b.variables fits.variables_fit p.texts p.exceptions callable b.declarations b.statements

@@ -24,7 +24,7 @@ use Rattle.ada_quiet.specs.Calm.{is_known_calm, unadjusted_types}
 use Rattle.ada_quiet.specs.Frugal.{thrift_of, frugal_procedures, is_frugal_body}
 use Rattle.ada_quiet.specs.Apart.{leave_access}
 use Rattle.ada_quiet.specs.InUse.{operations_may_be_called, tracks_nothing}
-use Rattle.ada_quiet.proofs.FrugalAt.{frugal_at}
+use Rattle.ada_quiet.proofs.FrugalAt.{frugal_at, operation_more, thrift_at}
 use Rattle.ada_quiet.proofs.QuietFrugal.{frugal_body}
 use Rattle.ada_deeds.specs.declared.deed.Callee.{Callee}
 use Rattle.ada_deeds.specs.declared.deed.Callee.TheVariants as callee
@@ -55,7 +55,7 @@ use Rattle.ada_sound.proofs.Shunning.{AssignsSpared, CopiesInert, CallsFrugal, C
 -- A body is frugal, where there is one.
 abbrev is_frugal_one : ProgramForm → Option BodyForm → Bool
 is_frugal_one p None = true
-is_frugal_one p (Some b) = is_frugal_body (thrift_of p) b
+is_frugal_one p (Some b) = is_frugal_body (thrift_at p) b
 
 -- A test fails for each number below this one.
 abbrev none_below : ℕ → (ℕ → Bool) → Bool
@@ -272,9 +272,9 @@ module _ (program : Program) (well : IsWellFormed (program_form program)) (uses 
       → is_frugal_one p (slice_get p.bodies number) ≡ true
   called_frugal of number treatment none overrides = by (slice_get p.bodies number) refl
     where
-      as_used : (b : BodyForm) → IsUsedAs p of number treatment b → is_frugal_body (thrift_of p) b ≡ true
-      as_used b (inl (plain, lets)) = frugal_body (thrift_of p) p.types b plain.plain
-      as_used b (inr (inl (may, enabled, frugal, stores))) = frugal
+      as_used : (b : BodyForm) → IsUsedAs p of number treatment b → is_frugal_body (thrift_at p) b ≡ true
+      as_used b (inl (plain, lets)) = frugal_body (thrift_at p) p.types b plain.plain
+      as_used b (inr (inl (may, enabled, frugal, stores))) = operation_more p b frugal
       as_used b (inr (inr (copies, tracks, own))) = absurd (none copies)
 
       by : (found : Option BodyForm) → slice_get p.bodies number ≡ found → is_frugal_one p found ≡ true
@@ -301,7 +301,7 @@ module _ (program : Program) (well : IsWellFormed (program_form program)) (uses 
     where
       by : (found : Option BodyForm) → slice_get p.bodies number ≡ found → is_frugal_one p found ≡ true
       by None there = refl
-      by (Some b) there = adjusts_frugally program uses well of number b there nothing overrides
+      by (Some b) there = operation_more p b (adjusts_frugally program uses well of number b there nothing overrides)
 
   -- What an operation of an object does not do, that of a record does not do that lies in it.
   operation_spares :
@@ -489,7 +489,7 @@ module _ (program : Program) (well : IsWellFormed (program_form program)) (uses 
   module _ (number : ℕ) (b : BodyForm) (there : slice_get p.bodies number ≡ Some b) (frugal : is_frugal_body (thrift_of p) b ≡ true) where
     own_shaped : (apart : Apart) × AreApart p program.types.items (λ t. false) apart × (body_shuns p.types (λ t. false) apart b ≡ true)
     own_shaped =
-        let one = subst (λ (found : Option BodyForm). is_frugal_one p found ≡ true) (sym there) frugal in
+        let one = subst (λ (found : Option BodyForm). is_frugal_one p found ≡ true) (sym there) (operation_more p b frugal) in
         let among = shunning_from p (λ t. false) number one (λ u is below. absurd (cc is)) in
         (apart_from program (λ t. false), shaped (λ t. false), (shaped (λ t. false)).bodies number b among there)
 

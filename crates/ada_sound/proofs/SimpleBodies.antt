@@ -95,7 +95,7 @@ module _ (allowance : Allowance) where
   thrifty_declarations (declares_record x t initial ∷ ds) is = absurd (cc is)
 
   mutual
-    thrifty_stmt : (f : StmtForm) → is_simple_stmt allowance.types true f ≡ true → is_thrifty_stmt allowance false f ≡ true
+    thrifty_stmt : (f : StmtForm) → is_simple_stmt allowance.types true f ≡ true → is_thrifty_stmt allowance f ≡ true
     thrifty_stmt skips is = refl
     thrifty_stmt (assigns target right) is = thrifty_right right is
     thrifty_stmt (assigns_record target items) is =
@@ -117,15 +117,15 @@ module _ (allowance : Allowance) where
         let three = apart _ _ two.0 in
         rw (thrifty_declarations ds three.0, thrifty_stmts fs three.1, thrifty_handlers hs two.1) refl
 
-    thrifty_stmts : (fs : StmtsForm) → are_simple allowance.types true fs ≡ true → are_thrifty allowance false fs ≡ true
+    thrifty_stmts : (fs : StmtsForm) → are_simple allowance.types true fs ≡ true → are_thrifty allowance fs ≡ true
     thrifty_stmts no_stmts is = refl
     thrifty_stmts (a_stmt f fs) is = let both = apart _ _ is in rw (thrifty_stmt f both.0, thrifty_stmts fs both.1) refl
 
-    thrifty_branches : (branches : BranchesForm) → are_simple_branches allowance.types true branches ≡ true → are_thrifty_branches allowance false branches ≡ true
+    thrifty_branches : (branches : BranchesForm) → are_simple_branches allowance.types true branches ≡ true → are_thrifty_branches allowance branches ≡ true
     thrifty_branches (otherwise fs) is = thrifty_stmts fs is
     thrifty_branches (a_branch e fs branches) is = let both = apart _ _ is in rw (thrifty_stmts fs both.0, thrifty_branches branches both.1) refl
 
-    thrifty_handlers : (hs : HandlersForm) → are_simple_handlers allowance.types true hs ≡ true → are_thrifty_handlers allowance false hs ≡ true
+    thrifty_handlers : (hs : HandlersForm) → are_simple_handlers allowance.types true hs ≡ true → are_thrifty_handlers allowance hs ≡ true
     thrifty_handlers no_handlers is = refl
     thrifty_handlers (a_handler choices fs hs) is = let both = apart _ _ is in rw (thrifty_stmts fs both.0, thrifty_handlers hs both.1) refl
 
@@ -200,7 +200,7 @@ simple_frugal frugal b is =
     ) refl
 
 -- It is so where bodies allocate and free no object with controlled parts.
-pub simple_thrifty : (allowance : Allowance) (b : BodyForm) → is_simple_body allowance.types true b ≡ true → is_thrifty_body allowance false b ≡ true
+pub simple_thrifty : (allowance : Allowance) (b : BodyForm) → is_simple_body allowance.types true b ≡ true → is_thrifty_body allowance b ≡ true
 simple_thrifty allowance b is =
     let parts = simple_parts allowance.types b is in
     rw (

@@ -135,7 +135,7 @@ module _ (frugal : Allowance) where
     replaces_begin v behind among [] ms other apart none q = absurd q
     replaces_begin v behind among (frame.Treats w (begins by done) tasks ∷ k) ms other apart none q = ((λ same. other (sym same)), leads_begin v behind among k ms apart none q.1)
     replaces_begin v behind among (frame.Treats w (ends cause) tasks ∷ k) ms other apart none q =
-        replaces_begin v behind among k ms (λ same. other (same ∙ replacing_in w k q.0.2.2)) apart none q.1
+        replaces_begin v behind among k ms (λ same. other (same ∙ replacing_in w k q.0.2.1)) apart none q.1
     replaces_begin v behind among (frame.Awaits w by done of part tasks ∷ k) ms other apart none q = ((λ same. other (sym same)), leads_begin v behind among k ms apart none q.1)
     replaces_begin v behind among (frame.Copies first t ∷ k) ms other apart none q = replaces_begin v behind among k ms other apart none q
     replaces_begin v behind among (frame.StoresRecord w first count ∷ k) ms other apart none (inl (same, q)) =
@@ -980,8 +980,10 @@ module _ (program : Program) (s : State) (grounds : Grounds program s) (gs : Lis
     by_frame (frame.Treats v (ends (Freeing number)) tasks) k ms runs is (inr (inr (may, (ending, q)))) forms = absurd ending.0
     by_frame (frame.Treats v (ends (Undoing number)) tasks) k ms runs is (inr (inr (may, (ending, q)))) forms = absurd ending.0
     by_frame (frame.Treats v (ends (Assigning number)) tasks) [] ms runs is (inr (inr (may, (ending, q)))) forms = absurd q
-    by_frame (frame.Treats v (ends (Assigning number)) tasks) (frame.Copies first t ∷ k) ms runs is (inr (inr (may, (ending, q)))) forms =
-        assigned v number tasks first t k ms runs is ending.2.1 q forms
+    by_frame (frame.Treats v (ends (Assigning number)) tasks) (frame.Copies first t ∷ k) ms runs is (inr (inr (may, ((assigns, copies, (treats, replacing, inl (own, known))), q)))) forms =
+        assigned v number tasks first t k ms runs is own q forms
+    by_frame (frame.Treats v (ends (Assigning number)) tasks) (frame.Copies first t ∷ k) ms runs is (inr (inr (may, ((assigns, copies, (treats, replacing, inr alone)), q)))) forms =
+        treated v (ends (Assigning number)) tasks (frame.Copies first t ∷ k) runs is alone forms
     by_frame (frame.Treats v (ends (Assigning number)) tasks) (f ∷ k) ms runs is (inr (inr (may, (ending, q)))) forms = let copies = ending.1 in absurd (cc copies)
     by_frame g k ms runs is q forms = tt
 

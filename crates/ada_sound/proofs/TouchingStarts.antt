@@ -17,6 +17,7 @@ use Rattle.ada_program.specs.Controlled.{operations_of}
 use Rattle.ada_program.specs.ProgramForm.{TypeForm, BodyForm, ProgramForm, program_form, body_forms, seen_by, seen_in}
 use Rattle.ada_program.specs.WellFormed.{finalization_of, is_access, variable_kind, object_named, IsWellFormed}
 use Rattle.ada_quiet.specs.Bare.{has_bare_objects}
+use Rattle.ada_quiet.proofs.FrugalAt.{operation_more}
 use Rattle.ada_quiet.specs.Frugal.{is_frugal_body, thrift_of}
 use Rattle.ada_quiet.specs.Idle.{makes_parts}
 use Rattle.ada_quiet.specs.InUse.{may_be_frugal, operations_may_be_called, tracks_beside_none}
@@ -402,7 +403,7 @@ module _ (program : Program) (a : Activation Value) (rest : List (Activation Val
           let waits : WaitsFor p.types c.o c.of c.treatment c.tasks k c.behind = subst (λ (types : List TypeForm). WaitsFor types c.o c.of c.treatment c.tasks k c.behind) (same_types a.procedure p) c.waits in
           let before = record s { activations = a ∷ rest; heap = c.heap; mode = Running; control = k } in
           let runs : Frugally (allowance_of p) s.masters c.behind [] after =
-          rw c.is (frugal_starts (allowance_of p) c.number c.b (body_thrifty p true c.b frugal) (Part c.o c.place) c.behind (is_awaited p.types c.o c.of c.treatment c.tasks k c.behind waits) before) in
+          rw c.is (frugal_starts (allowance_of p) c.number c.b (body_thrifty p c.b (operation_more p c.b frugal)) (Part c.o c.place) c.behind (is_awaited p.types c.o c.of c.treatment c.tasks k c.behind waits) before) in
           record {
             suspensions = origin program 0 after begun.pause ∷ gs;
             ready = begun.ready;

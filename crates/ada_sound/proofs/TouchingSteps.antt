@@ -70,13 +70,13 @@ module _ (program : Program) (s : State) (f : Touching program s) (grounds : Gro
       freed_inside known s.heap (places s) (operands s) s.masters o s.control
       (subst (λ (mode : Mode). ReadyIn known mode s.control s.heap (places s) (operands s) s.masters) runs f.ready.1) freed outside
 
-  -- Where the body of an operation assigns next to a record for which an operation may be called, none of its object runs.
+  -- Where a body assigns next to a record, none of its object runs, unless the body is that of an operation itself, and none is called for the record.
   beside_next : s.mode ≡ Running → AssignsBeside (thrifty program s f) program.types.items s.control (operands_of s.activations)
   beside_next runs = by s.control refl
     where
       by : (k : Control) → s.control ≡ k → AssignsBeside (thrifty program s f) program.types.items k (operands_of s.activations)
       by [] is = tt
-      by (frame.Assigns t ∷ k) is = λ own calls o place target. grounds.beside runs t k is own calls o place target
+      by (frame.Assigns t ∷ k) is = λ calls o place target. grounds.beside runs t k is calls o place target
       by (g ∷ k) is = tt
 
   -- What is left to do is so behind each step but the end of a body, and the treatment of an object.

@@ -23,6 +23,7 @@ use Rattle.ada_meaning.specs.State.{Activation, Master}
 use Rattle.ada_meaning.specs.Step.{halts, moves, tells, asks, picks, older, operating, procedure_of, operands_of, frame_next, treating}
 use Rattle.ada_meaning.specs.Named.{State, Next, named, next}
 use Rattle.ada_meaning.specs.Run.{Event, settled}
+use Rattle.ada_quiet.proofs.FrugalAt.{operation_more}
 use Rattle.ada_quiet.specs.Frugal.{is_frugal_body, thrift_of}
 use Rattle.ada_quiet.specs.Idle.{copies_parts}
 use Rattle.ada_quiet.specs.InUse.{may_be_frugal, tracks_nothing}
@@ -189,9 +190,9 @@ module _ (program : Program) (a : Activation Value) (rest : List (Activation Val
               subst (λ (j : Control). FrugalOperated frugal operation.behind (Names c.o ∷ among) j upper) (sym is)
               (ends_leads frugal operation.behind among (Names c.o) (ends cause) c.tasks k upper
               (subst (λ (u : Value). EndsThere frugal u (ends cause) k) c.operated.3 ending.0) ending.1)
-          by (ends cause) (inr (inr ((assigns, copies, treats, own, replacing, alone), q))) (is, inside) =
+          by (ends cause) (inr (inr ((assigns, copies, treats, replacing, alone), q))) (is, inside) =
               subst (λ (j : Control). FrugalOperated frugal operation.behind (Names c.o ∷ among) j upper) (sym is)
-              (replaces_operated frugal operation.behind among (Names c.o) cause c.tasks k upper assigns copies treats own
+              (replaces_operated frugal operation.behind among (Names c.o) cause c.tasks k upper assigns copies treats
               (subst (λ (u : Value). IsReplacing u k) c.operated.3 replacing) (subst (λ (u : Value). NoOperationRunsOn u k) c.operated.3 alone) q)
           by (ends cause) (inr (inl leaving)) (is, inside) =
               subst (λ (j : Control). FrugalOperated frugal operation.behind (Names c.o ∷ among) j upper) (sym is)
@@ -205,7 +206,7 @@ module _ (program : Program) (a : Activation Value) (rest : List (Activation Val
           finalized : (cause : Cause) → Treated (ends cause) → finalized_before k ≡ v
           finalized cause (inl ending) = ending.0.2
           finalized cause (inr (inl leaving)) = leaving.0.2
-          finalized cause (inr (inr replacing)) = replacing_before v k replacing.0.4
+          finalized cause (inr (inr replacing)) = replacing_before v k replacing.0.3
 
           by : (way : Treatment) → Treated way → WaitsFor p.types c.o c.of way c.tasks k c.behind → operated_in c.behind ≡ Names c.o ∷ []
           by (begins how done) beginning (part, is) = ap operated_in is
@@ -227,7 +228,7 @@ module _ (program : Program) (a : Activation Value) (rest : List (Activation Val
           by (ends (Freeing number)) treated = tt
           by (ends (Assigning number)) (inl ending) = absurd ending.0.0
           by (ends (Assigning number)) (inr (inl leaving)) = absurd leaving.0.0
-          by (ends (Assigning number)) (inr (inr replacing)) = subst (λ (u : Value). IsReplacing u k) c.operated.3 replacing.0.4
+          by (ends (Assigning number)) (inr (inr replacing)) = subst (λ (u : Value). IsReplacing u k) c.operated.3 replacing.0.3
           by (ends (Undoing number)) treated = tt
 
       -- So it is once that has come to its end.
@@ -400,7 +401,7 @@ module _ (program : Program) (a : Activation Value) (rest : List (Activation Val
           -- Its body is frugal as the others are.
           runs_begun : Frugally frugal operation.lower operation.behind (operated_among (waits_for ∷ f.within.inner)) after
           runs_begun =
-              let body : is_thrifty_body frugal true c.b ≡ true = body_thrifty p true c.b frugal_body in
+              let body : is_thrifty_body frugal c.b ≡ true = body_thrifty p c.b (operation_more p c.b frugal_body) in
               subst (λ (t : State). Frugally frugal operation.lower operation.behind (operated_among (waits_for ∷ f.within.inner)) t) (sym c.is)
               (frugal_starts_inside frugal operation.behind (operated_in begun.pause.behind ++ among) upper operation.lower c.number c.b body (Part c.o c.place) c.behind (record (running k a rest s) { heap = c.heap }) f.within.frugal.masters
               (subst (λ (j : Control). FrugalOperated frugal operation.behind (operated_in j ++ among) c.behind upper) (sym begun.is_behind) leads_operated))
@@ -437,7 +438,7 @@ module _ (program : Program) (a : Activation Value) (rest : List (Activation Val
         lone_here (ends cause) one (inr (inl leaving)) = lone_ended cause one (inr leaving.0.0)
         lone_here (ends (Leaving m item)) one (inr (inr replacing)) = absurd replacing.0.0
         lone_here (ends (Freeing number)) one (inr (inr replacing)) = absurd replacing.0.0
-        lone_here (ends (Assigning number)) one (inr (inr replacing)) = λ first t rest at. stored_in replacing.0.4 first t rest at
+        lone_here (ends (Assigning number)) one (inr (inr replacing)) = λ first t rest at. stored_in replacing.0.3 first t rest at
         lone_here (ends (Undoing number)) one (inr (inr replacing)) = absurd replacing.0.0
 
         -- So one begins inside that touches storage.

@@ -31,7 +31,8 @@ returns c =
       untracked = c.leave_access-untracked.result;
       procedures = c.deref-9.result.now;
       operation = true;
+      formals = 1;
     } in
     by_marks c.are_frugal_bodies.result p thrift
-    (thrift_alike thrift (thrift_of p) (ap (λ (ts : List TypeDefinition). types_in ts) c.deref-6.ensures.value) unadjusted unfinalized untracked procedures refl)
+    (thrift_alike thrift (thrift_of p) (ap (λ (ts : List TypeDefinition). types_in ts) c.deref-6.ensures.value) unadjusted unfinalized untracked procedures refl refl)
     c.are_frugal_bodies.ensures
