@@ -66,6 +66,7 @@ mod frugal;
 mod idle;
 pub mod laws;
 mod marks;
+mod mixed;
 mod numbered;
 mod operations;
 mod simple;
