@@ -13,6 +13,7 @@ use Rattle.ada_quiet.specs.Frugal.{is_frugal_operation}
 use Rattle.ada_quiet.specs.Simple.{is_simple_operation}
 use Rattle.ada_quiet.specs.Apart.{leave_access, operations_stand_apart}
 use Rattle.ada_quiet.specs.Idle.{makes_parts, copies_parts}
+use Rattle.ada_quiet.specs.Mixed.{untracked_types, tracked_or_quiet_types, is_unmixed}
 
 -- An Initialize and a Finalize may be frugal in a program in which operations stand apart: so an Initialize is called where an object is declared or allocated
 -- (7.6), and a Finalize where an object's master is left, an exception comes out of the initialization of one (7.6.1), another record is assigned to it, or a
@@ -84,10 +85,10 @@ adjusts_nothing p = not (copies_parts p) && operations_stand_in_order p
 abbrev pub tracks_nothing : ProgramForm → Bool
 tracks_nothing p = leave_access p.types
 
--- Where a part of a copy is adjusted that tracks nothing, nothing in the copy is tracked: no Adjust of the program tracks, or each record has one controlled
--- part at most, which is that one.
+-- Where an Adjust touches storage and does not track, none tracks in the same copy: no Adjust of the program tracks, or no record type has parts of both kinds.
 abbrev pub tracks_beside_none : ProgramForm → Bool
-tracks_beside_none p = tracks_nothing p || adjusts_alone p
+tracks_beside_none p =
+    tracks_nothing p || list_all (λ t. is_unmixed (untracked_types p.types) (tracked_or_quiet_types p) (finalization_in (Some t))) p.types
 
 -- An Adjust that does not track may be frugal in a program in which an Initialize and a Finalize may be, and none tracks beside it.
 abbrev pub may_adjust_frugally : ProgramForm → Bool

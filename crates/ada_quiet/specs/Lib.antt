@@ -14,6 +14,8 @@ pub mod Frugal
 pub mod Simple
 -- procedures that override an Adjust which tracks stand apart
 pub mod Apart
+-- record types that have parts whose Adjust tracks beside others whose Adjust touches storage
+pub mod Mixed
 -- what is in use
 pub mod InUse
 -- what frugal bodies go by, and marks and numbers of types, as the code holds them

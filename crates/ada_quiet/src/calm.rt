@@ -51,7 +51,7 @@ fn are_calm_parts(types: &[TypeDefinition], calm: &[bool], parts: &[Part]) -> bo
 
 /// Whether a type is a calm record type, where `own` says whether its own operations are so: they are, and so is each of its declared
 /// components. Linear in the components.
-fn is_calm_type(
+pub(crate) fn is_calm_type(
     own: bool,
     types: &[TypeDefinition],
     calm: &[bool],

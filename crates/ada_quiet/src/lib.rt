@@ -39,8 +39,9 @@
 //! and a Finalize where an object's master is left, an exception comes out of the initialization of one (7.6.1), another record is
 //! assigned to it (7.6), or a variable or a component is freed that names it (13.11.2), and nowhere else.
 //!
-//! An Adjust that may be called may be frugal where an Initialize may be, in a program in which no Adjust tracks (`tracks_nothing`): there
-//! no record is copied that has a component of an access type, at any depth.
+//! An Adjust that may be called, and does not track, may be frugal where an Initialize may be, if none tracks beside it
+//! (`tracks_beside_none`): no Adjust of the program tracks, or no record type has, at any depth, a part whose Adjust does and one whose
+//! Adjust touches storage otherwise. So where one is called for a part of a copy, the copy has no component of an access type, at any depth.
 //!
 //! An Adjust may track where a Finalize may be frugal, if also the elementary components of each record type stand in the order of its
 //! declared ones, and a record whose type overrides Adjust is controlled itself, as in each program that is resolved (`may_track`). Its
@@ -53,8 +54,9 @@
 //! A program with another body is refused (F23), since no theorem covers it so far: an Initialize, an Adjust or a Finalize that touches
 //! storage in another program, gives values to the components of objects with controlled parts that it allocates, declares other records
 //! with an initial value where an Adjust tracks, or assigns other records with such parts, an Adjust that tracks and frees objects with
-//! controlled parts, one that touches storage beside one that tracks, operations that call procedures that are not frugal, and an Adjust
-//! that tracks and calls, declares record objects, assigns records with controlled parts, or frees objects where a record has two of these.
+//! controlled parts, one that touches storage and does not track where a record type has both kinds of parts, operations that call
+//! procedures that are not frugal, and an Adjust that tracks and calls, declares record objects, assigns records with controlled parts, or frees objects where a record has
+//! two of these.
 #![tactic(auto)]
 
 mod apart;
@@ -66,6 +68,7 @@ mod frugal;
 mod idle;
 pub mod laws;
 mod marks;
+mod mixed;
 mod numbered;
 mod operations;
 mod simple;

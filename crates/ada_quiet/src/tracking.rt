@@ -161,7 +161,7 @@ pub(crate) fn adjusts_alone(program: &Program) -> bool
 }
 
 /// Whether a type that declares a component of an access type directly overrides no Adjust (3.10, 7.6).
-fn leaves_access(definition: &TypeDefinition) -> bool
+pub(crate) fn leaves_access(definition: &TypeDefinition) -> bool
     ensures { let t = type_form definition.now in result ≡ apart.leaves_access t (fits.finalization_in (Some t)) }
 {
     match finalization_in(definition) {
@@ -185,16 +185,8 @@ pub(crate) fn leave_access(types: &[TypeDefinition]) -> bool
 }
 
 /// Whether no Adjust of a program tracks. Linear in the types and their components.
-fn tracks_nothing(program: &Program) -> bool
+pub(crate) fn tracks_nothing(program: &Program) -> bool
     ensures { result ≡ rules.tracks_nothing (program_form program.now) }
 {
     leave_access(&program.types)
-}
-
-/// Whether nothing in a copy is tracked where a part of it is adjusted that tracks nothing: none of the program tracks, or each record has
-/// one controlled part at most, which is that one. Linear in the types and their components.
-pub(crate) fn tracks_beside_none(program: &Program) -> bool
-    ensures { result ≡ rules.tracks_beside_none (program_form program.now) }
-{
-    tracks_nothing(program) || adjusts_alone(program)
 }

@@ -8,10 +8,11 @@ ghost use Rattle.ada_quiet.specs.InUse as rules;
 
 use crate::apart::operations_stand_apart;
 use crate::idle::adjusts_nothing;
+use crate::mixed::tracks_beside_none;
 use crate::operations::{
     is_frugal_operation, is_overridden, is_plain_operation, is_quiet_operation, is_simple_operation,
 };
-use crate::tracking::{adjusts_alone, may_track, tracks_beside_none};
+use crate::tracking::{adjusts_alone, may_track};
 use ada_program::{ProcedureNo, Program};
 use std::alloc::{AllocError, Global};
 
@@ -54,7 +55,7 @@ pub(crate) fn allowed_in(alloc: Global, program: &Program) -> Result<Allowed, Al
 {
     let frugal = may_be_frugal(alloc, program)?;
     let nothing = adjusts_nothing(alloc, program)?;
-    let freely = frugal && tracks_beside_none(program);
+    let freely = frugal && tracks_beside_none(alloc, program)?;
     let tracks = may_track(program, frugal);
     let alone = adjusts_alone(program);
     Ok(Allowed {

@@ -23,7 +23,7 @@ use Rattle.ada_typed.proofs.Lying.{IsOperable}
 
 module _ (p : ProgramForm) where
   -- The body that overrides an operation is quiet where the operation is, and plain where that is.
-  quiet_there : (o : Option ProcedureNo) (number : ℕ) (b : BodyForm) → is_quiet_operation p o ≡ true → procedure_number o ≡ Some number → slice_get p.bodies number ≡ Some b
+  pub quiet_there : (o : Option ProcedureNo) (number : ℕ) (b : BodyForm) → is_quiet_operation p o ≡ true → procedure_number o ≡ Some number → slice_get p.bodies number ≡ Some b
       → is_quiet_body p.types b ≡ true
   quiet_there o number b quiet overrides there =
       let one = numbered_one o number overrides in

@@ -35,7 +35,7 @@ use Rattle.ada_sound.proofs.TracksAs.{own_sees}
 use Rattle.ada_sound.proofs.Treatments.{Begins}
 
 -- Of declared components of which one is of an access type, there are numbers.
-some_numbers : (ps : List PartForm) → list_any (λ c. is_owning_part c.kind) ps ≡ true → access_numbers ps ≡ [] → ⊥
+pub some_numbers : (ps : List PartForm) → list_any (λ c. is_owning_part c.kind) ps ≡ true → access_numbers ps ≡ [] → ⊥
 some_numbers [] is none = absurd (cc is)
 some_numbers (p ∷ ps) is none = by (λ own nothing. some_numbers ps own nothing) p.kind is none
   where

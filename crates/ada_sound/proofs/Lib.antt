@@ -343,7 +343,8 @@ pub mod TouchingBegins
 -- what is initialized is owned outside of the bodies that run inside
 pub mod BegunOutside
 pub mod WatchedBegins
--- the Adjust of a part of a copy begins, where nothing tracks
+-- the Adjust of a part of a copy begins, where nothing in it tracks
+pub mod Unmixed
 pub mod TouchingCopies
 pub mod TouchingStarts
 -- what a body sees

@@ -288,12 +288,14 @@ module _ (program : Program) (a : Activation Value) (rest : List (Activation Val
       adjusts_copy beside (begins Creation done) is copies = absurd copies
       adjusts_copy beside (begins Copy done) is copies =
           let part = c.adjusts Copy done is tt in
-          declared_enters program grounds.well beside a.procedure gs c.o c.x c.heap c.found a.places a.operands s.masters k parted c.of part.0 c.tasks (c.plain Copy done is tt) part.1 (around_by (begins Copy done) is refl) done c.number c.b c.there
-          (subst (λ (way : Treatment). IsCalled (operations_of program.types.items c.of) way c.number) is c.called)
+          declared_enters program grounds.well beside a.procedure gs c.o c.x c.heap c.found a.places a.operands s.masters k parted c.of part.0 c.tasks (c.plain Copy done is tt)
+          c.number c.b c.there (subst (λ (way : Treatment). IsCalled (operations_of program.types.items c.of) way c.number) is c.called)
+          (subst (λ (way : Treatment). TouchesStorage p way c.b) is stores) part.1 (around_by (begins Copy done) is refl) done
       adjusts_copy beside (begins (Adjustment n) done) is copies =
           let part = c.adjusts (Adjustment n) done is tt in
-          assigned_enters program grounds.well beside a.procedure gs c.o c.x c.heap c.found a.places a.operands s.masters k parted c.of part.0 c.tasks (c.plain (Adjustment n) done is tt) part.1 (around_by (begins (Adjustment n) done) is refl) n done c.number c.b c.there
-          (subst (λ (way : Treatment). IsCalled (operations_of program.types.items c.of) way c.number) is c.called)
+          assigned_enters program grounds.well beside a.procedure gs c.o c.x c.heap c.found a.places a.operands s.masters k parted c.of part.0 c.tasks (c.plain (Adjustment n) done is tt)
+          c.number c.b c.there (subst (λ (way : Treatment). IsCalled (operations_of program.types.items c.of) way c.number) is c.called)
+          (subst (λ (way : Treatment). TouchesStorage p way c.b) is stores) part.1 (around_by (begins (Adjustment n) done) is refl) n done
       adjusts_copy beside (ends cause) is copies = absurd copies
 
       entered_by : (by : Treatment) → c.treatment ≡ by → MayTouch p c.number by → EnteredAs c.treatment
