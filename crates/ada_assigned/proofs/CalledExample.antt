@@ -1,6 +1,6 @@
 -- The program whose Initialize calls a procedure that assigns to a record object which it declares, and its run.
 
-use Rattle.std.proofs.Common.{◌≡◌, ℕ, zero, suc, true, false, List, [], ◌∷◌, ◌++◌, refl, sym, ap, subst, arith}
+use Rattle.std.proofs.Common.{◌≡◌, zero, suc, true, false, [], ◌∷◌, ◌++◌, refl, sym, subst, arith}
 use Rattle.std.proofs.lemmas.Bool.{eqb-true}
 use Rattle.ada_program.specs.declared.program.Actual.TheVariants as actual
 use Rattle.ada_program.specs.declared.program.Item.TheVariants as item
@@ -11,14 +11,12 @@ use Rattle.ada_program.specs.declared.program.Stmt as stmt
 use Rattle.ada_program.specs.Form.{StmtsForm, stmt_form, expression_form, stmt_forms, statement_rules}
 use Rattle.ada_program.specs.ProgramForm.{ProgramForm, program_form, body_forms}
 use Rattle.ada_program.specs.WellFormed.{IsWellFormed, creates_from, creations, stmts_fit, callable_in, pools_fit as pools_are_known}
-use Rattle.ada_meaning.specs.declared.state.Value.{Value}
-use Rattle.ada_meaning.specs.declared.state.Value.TheVariants.{Names}
 use Rattle.ada_meaning.specs.Named.{next}
-use Rattle.ada_meaning.specs.Run.{Choice, takes}
+use Rattle.ada_meaning.specs.Run.{takes}
 use Rattle.ada_order.specs.Example.{InSomeRun}
 use Rattle.ada_order.proofs.Choices.{run_by}
 use Rattle.ada_order.proofs.Example.{steps, vec}
-use Rattle.ada_finalized.specs.Example.{object_x, object_y, object_stmts}
+use Rattle.ada_finalized.specs.Example.{object_stmts}
 use Rattle.ada_assigned.specs.Law.{CalledAssignBeside, operations_assign_inside}
 use Rattle.ada_assigned.specs.Example.{copying_initialize, calling_initialize, calling_operations, is_first, FindsDeclaredThere, InitializeCallsBeside}
 use Rattle.ada_assigned.proofs.Example as other
