@@ -6,6 +6,7 @@ use Rattle.ada_program.specs.declared.program.ComponentKind.TheVariants as compo
 use Rattle.ada_program.specs.declared.program.Declaration.TheVariants as declaration
 use Rattle.ada_program.specs.declared.program.FormalMode.TheVariants.{InOut}
 use Rattle.ada_program.specs.declared.program.Item.TheVariants as item
+use Rattle.ada_program.specs.declared.program.Operations.{Operations}
 use Rattle.ada_program.specs.declared.program.PartKind.TheVariants as part
 use Rattle.ada_program.specs.declared.program.Procedure.{Procedure}
 use Rattle.ada_program.specs.declared.program.Program.{Program}
@@ -30,18 +31,18 @@ use Rattle.ada_finalized.proofs.Example.{controlled_with}
 use Rattle.ada_assigned.specs.Law.{operations_assign_inside}
 use Rattle.ada_assigned.specs.Example.{assigning_initialize, AssignsToComponent, InitializeAssignsInside}
 
--- Inner and Outer, and what X, the formal parameter and the object of Initialize are known by.
-abbrev types : List TypeDefinition
-types =
+-- Inner and Outer, which overrides these, and what X, the formal parameter and the object of Initialize are known by.
+abbrev pub types_with : Operations → List TypeDefinition
+types_with operations =
     controlled_with (part.Elementary (component.Integer (pos 0))) 0 1 no_operations
-    ∷ controlled_with (part.Record (record { 0 = 0 })) 1 2 outer_operations
+    ∷ controlled_with (part.Record (record { 0 = 0 })) 1 2 operations
     ∷ definition.Object (record { 0 = 1 })
     ∷ definition.Object (record { 0 = 1 })
     ∷ definition.Object (record { 0 = 0 })
     ∷ []
 
 -- A record object that is known by the type of this number.
-abbrev object_of : ℕ → Variable
+abbrev pub object_of : ℕ → Variable
 object_of t = record { name = no_name; spot = spot; kind = variable.Record (record { 0 = t }); borrows = false }
 
 abbrev pub inner_path : (x part : ℕ) → RecordPath
@@ -70,7 +71,7 @@ block =
 
 abbrev pub program : Program
 program = record {
-  types = vec types (omega arith);
+  types = vec (types_with outer_operations) (omega arith);
   pools = vec [] (omega arith);
   procedures = vec (initialize ∷ []) (omega arith);
   variables = vec (object_of 2 ∷ []) (omega arith);

@@ -26,3 +26,5 @@ pub mod Runs
 pub mod Example
 -- one whose operation assigns to what it declares
 pub mod OwnExample
+-- one whose operation calls what does so
+pub mod CalledExample

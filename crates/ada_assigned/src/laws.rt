@@ -1,7 +1,7 @@
 //! The laws of assignments in operations. Each is a function that does nothing, and whose contract is the theorem.
 
 ghost use Rattle.ada_assigned.specs.Law.{AssignmentsBesideRunAlone, AssignmentsInsideStand, CalledAssignmentsRunAlone};
-ghost use Rattle.ada_assigned.specs.Example.{InitializeAssignsBeside, InitializeAssignsInside};
+ghost use Rattle.ada_assigned.specs.Example.{InitializeAssignsBeside, InitializeAssignsInside, InitializeCallsBeside};
 
 /// Where the body of an Initialize, an Adjust or a Finalize assigns to a record with controlled parts as a whole (5.2), which lies in its
 /// formal parameter, or in a record object that the body declares, each value that is finalized there exists (7.6.1): so it is
@@ -23,8 +23,9 @@ pub fn called_assignments_run_alone()
 {}
 
 /// Well-formed programs meet the premises: an Initialize assigns to a component of its formal parameter that is controlled
-/// itself, and another one to a record object that it declares.
+/// itself, another one to a record object that it declares, and a third one calls what does so.
 pub fn premises_are_met()
     ensures inside { InitializeAssignsInside }
     ensures beside { InitializeAssignsBeside }
+    ensures called { InitializeCallsBeside }
 {}

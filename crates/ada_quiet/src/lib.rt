@@ -3,8 +3,9 @@
 //! Adjust that is never called is frugal that allocates, moves, follows and frees objects, and calls procedures with frugal bodies, but
 //! assigns a record with controlled parts as a whole only as below, and declares variables, which may be given what it allocates, and
 //! record objects, those with controlled parts by default, or as copies, where no Adjust tracks, or none is called for these (3.3.1, 7.6).
-//! The body of an operation may assign to a record with controlled parts as a whole that is inert, so that nothing is called, and that
-//! lies in a component of the formal parameter (5.2, 7.6); no access value is followed to it. What a frugal body frees may have controlled
+//! It may assign to a record with controlled parts as a whole in a record object that it declares itself, where such a copy may be
+//! declared (5.2); and the body of an operation also to one that is inert, so that nothing is called, and that lies in a component of the
+//! formal parameter (7.6). No access value is followed to it. What a frugal body frees may have controlled
 //! parts, whichever operation it is (13.11.2): the operations that end these run inside. So may what it declares, and what it allocates
 //! that is initialized by default (4.8, 7.6): the operations that begin these run inside as well, also an Adjust, and those that end
 //! declared ones where their master is left. That a Finalize allocates is not refused here, but by rule S10. That what the declarations of

@@ -67,7 +67,6 @@ use Rattle.ada_sound.proofs.OperationStarts.{apart}
 use Rattle.ada_sound.proofs.Orderings.{as_good}
 use Rattle.ada_sound.proofs.Returns.{same_types}
 use Rattle.ada_sound.proofs.Sparing.{Sparing, bare_apart, begins_sparing, is_around}
-use Rattle.ada_sound.proofs.FrugalControl.{waits_first}
 use Rattle.ada_sound.proofs.Allowance.{Allowance, allocates_thriftily, are_thrifty_declarations, is_thrifty_stmt, are_thrifty, are_thrifty_branches, are_thrifty_handlers, is_thrifty_body, simple_allowance}
 use Rattle.ada_sound.proofs.Stored.{AllOut, none_departed, stored_entered}
 use Rattle.ada_sound.proofs.Touching.{resting}

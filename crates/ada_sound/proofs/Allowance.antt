@@ -1,10 +1,10 @@
 -- Frugal bodies (7.6, 4.8, 13.11.2) that free no objects with controlled parts, or may do so, and that create none and declare no record objects, or may do so,
 -- as what is proved of them tells them apart. Those that free some may assign to records with such parts as wholes (5.2).
 
-use Rattle.std.proofs.Common.{◌≡◌, ℕ, Bool, true, false, ◌&&◌, ◌||◌, List, Option, refl, sym, ◌∙◌, [], ◌∷◌, inl, inr}
+use Rattle.std.proofs.Common.{◌≡◌, ℕ, Bool, true, false, ◌&&◌, ◌||◌, List, Option, refl, ◌∙◌, [], ◌∷◌, inl, inr}
 use Rattle.std.specs.Prelude.{not, is_some, if◌then◌else◌, Some, None}
 use Rattle.std.specs.List.{list_all, slice_index_or}
-use Rattle.std.proofs.lemmas.Bool.{and_from, and_parts, or_cases, or_left, or_right}
+use Rattle.std.proofs.lemmas.Bool.{and_parts, or_cases, or_left, or_right}
 use Rattle.ada_effects.specs.Effects.{record_path_raises}
 use Rattle.ada_program.specs.Form.{RecordPathForm, ItemForm, RightForm, nothing, value_of, allocates, allocates_default, computes, DeclarationForm, creates_pool, collects, declares, declares_record, StmtForm, skips, assigns, assigns_record, frees, gets, writes, writes_text, chooses, repeats, counts, exits, calls, returns, raises, encloses, StmtsForm, no_stmts, a_stmt, BranchesForm, otherwise, a_branch, HandlersForm, no_handlers, a_handler}
 use Rattle.ada_program.specs.ProgramForm.{TypeForm, BodyForm, ProgramForm}
@@ -13,7 +13,7 @@ use Rattle.ada_quiet.specs.Apart.{is_bare_item, leave_access}
 use Rattle.ada_quiet.specs.Bare.{has_bare_objects}
 use Rattle.ada_quiet.specs.Calm.{is_known_calm, unadjusted_types, unfinalized_types}
 use Rattle.ada_quiet.specs.Idle.{holds_parts}
-use Rattle.ada_quiet.specs.Frugal.{allocates_frugally, is_bare_initial, is_copied_initial, is_unadjusted_named as frugal_named, is_unadjusted_initial, is_frugal_declaration, are_frugal_declarations, frugal_procedures, is_frugal_stmt, are_frugal, are_frugal_branches, are_frugal_handlers, is_frugal_body, Thrift, assigns_at_hand, thrift_of}
+use Rattle.ada_quiet.specs.Frugal.{allocates_frugally, is_bare_initial, is_copied_initial, is_unadjusted_named as frugal_named, is_unadjusted_initial, is_frugal_declaration, are_frugal_declarations, frugal_procedures, is_frugal_stmt, are_frugal, are_frugal_branches, are_frugal_handlers, is_frugal_body, Thrift, assigns_at_hand}
 use Rattle.ada_quiet.proofs.FrugalAt.{thrift_at}
 
 -- What such bodies go by: as frugal ones do, also whether no Adjust tracks, whether they may free objects with controlled parts, and whether they may allocate

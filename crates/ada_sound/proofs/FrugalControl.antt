@@ -85,12 +85,6 @@ waits_first k = assigned.waits_first k
 abbrev pub own_in : Control → Bool
 own_in k = assigned.is_of_operation k
 
-pub awaited_first : (k : Control) → IsAwaited k → waits_first k ≡ true
-awaited_first [] awaited = absurd awaited
-awaited_first (frame.Awaits v by done of part tasks ∷ k) awaited = refl
-awaited_first (frame.Confines ∷ k) awaited = refl
-awaited_first (f ∷ k) awaited = absurd awaited
-
 -- So it is where an object is treated before.
 pub own_treating : (v : Value) (treatment : Treatment) (tasks : List Task) (k : Control) → own_in (treating v treatment tasks k) ≡ own_in k
 own_treating v treatment [] k = refl

@@ -1,6 +1,6 @@
 -- A simple body (7.6) is frugal, whatever is known of procedures: it calls none.
 
-use Rattle.std.proofs.Common.{◌≡◌, ℕ, Bool, true, false, ◌&&◌, List, [], ◌∷◌, drop, refl}
+use Rattle.std.proofs.Common.{◌≡◌, ℕ, Bool, true, ◌&&◌, List, [], ◌∷◌, drop, refl}
 use Rattle.std.specs.List.{list_all}
 use Rattle.std.specs.Prelude.{not, is_some, if◌then◌else◌}
 use Rattle.std.proofs.lemmas.Bool.{or_left, or_right}

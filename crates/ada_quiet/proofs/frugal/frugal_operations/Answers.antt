@@ -1,4 +1,4 @@
-use Rattle.std.proofs.Common.{◌≡◌, ℕ, Bool, true, List, [], map, refl, ap, ◌∙◌}
+use Rattle.std.proofs.Common.{◌≡◌, Bool, true, List, map, refl, ap, ◌∙◌}
 use Rattle.std.specs.Global.{Vec}
 use Rattle.std.specs.Prelude.{Result, Ok, Err, IfOk}
 use Rattle.ada_program.specs.declared.program.TypeDefinition.{TypeDefinition}
@@ -6,7 +6,7 @@ use Rattle.ada_program.specs.Kept.{types_in}
 use Rattle.ada_program.specs.ProgramForm.{BodyForm, ProgramForm, program_form}
 use Rattle.ada_quiet.specs.Apart.{leave_access}
 use Rattle.ada_quiet.specs.Calm.{unadjusted_types, unfinalized_types}
-use Rattle.ada_quiet.specs.Frugal.{Thrift, is_frugal_body, frugal_from, frugal_operations, thrift_of}
+use Rattle.ada_quiet.specs.Frugal.{Thrift, is_frugal_body, frugal_operations, thrift_of}
 use Rattle.ada_quiet.proofs.FrugalAt.{tests_alike, thrift_alike}
 use Rattle.ada_quiet.proofs.frugal.frugal_operations.Goals as goal
 
