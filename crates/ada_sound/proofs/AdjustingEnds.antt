@@ -35,7 +35,7 @@ use Rattle.ada_sound.proofs.Alters.{alters_same}
 use Rattle.ada_sound.proofs.Blanked.{blanked_at, stored_unblanked, unblanked}
 use Rattle.ada_sound.proofs.BlankedEnds.{all_lost, judged_ends}
 use Rattle.ada_sound.proofs.Callers.{AreOf, Stands, Suspension, caller_of, callers_of, known_in}
-use Rattle.ada_sound.proofs.CopiedOwners.{CopyLeft, NameThere, hiding, owners_left}
+use Rattle.ada_sound.proofs.CopiedOwners.{AreCopied, CopyLeft, NameThere, hiding, owners_left}
 use Rattle.ada_sound.proofs.Fits.{Fit, IsWithin, Outsiders, none_spared}
 use Rattle.ada_sound.proofs.Invariant.{AdjustsAside, AdjustsTo, Control, GoesOn, Known, Ready, ReadyIn, Rooms, RunsOn, Standing, TreatsBy, Working, outer_of, outers, owed_in}
 use Rattle.ada_sound.proofs.Judged.{known_judged}
@@ -243,7 +243,8 @@ module _ (program : Program) (s : State) (f : Adjusting program s) (a b : Activa
   module _
       (heap : List Object) (x : Object) (found : object_at heap f.object ≡ Some x) (remains : CopyLeft (program_form program).types f.access f.record_type f.tasks)
       (aside : s.heap ≡ blanked (hiding (owners_left (program_form program).types f.access f.tasks) f.object) heap)
-      (named : NameThere heap (values_at (owners_left (program_form program).types f.access f.tasks) x.cell.values)) where
+      (named : NameThere heap (values_at (owners_left (program_form program).types f.access f.tasks) x.cell.values))
+      (come_from : AreCopied (program_form program).types heap f.object f.record_type remains.first (owners_left (program_form program).types f.access f.tasks) x.cell.values) where
     abbrev hides : View
     hides = hiding (owners_left (program_form program).types f.access f.tasks) f.object
 
@@ -262,14 +263,15 @@ module _ (program : Program) (s : State) (f : Adjusting program s) (a b : Activa
     -- What is left of the copy is adjusted next.
     abbrev AdjustsBy : List TypeForm → (access : ℕ) → Type 0
     AdjustsBy types access =
-        CopyLeft types access f.record_type f.tasks × NameThere heap (values_at (owners_left types access f.tasks) x.cell.values)
+        ((left : CopyLeft types access f.record_type f.tasks) × AreCopied types heap f.object f.record_type left.first (owners_left types access f.tasks) x.cell.values)
+        × NameThere heap (values_at (owners_left types access f.tasks) x.cell.values)
         × Working own (blanked (hiding (owners_left types access f.tasks) f.object) heap) f.places f.lower (λ rooms holds. RunsOn own f.after rooms holds × AdjustsAside own access f.record_type holds)
 
     adjusts_by : AdjustsBy own.program.types x.cell.access
     adjusts_by =
         let works_there =
         subst (λ (objects : List Object). Working own objects f.places f.lower (λ rooms holds. RunsOn own f.after rooms holds × AdjustsAside own f.access f.record_type holds)) aside own_works in
-        subst (λ (types : List TypeForm). AdjustsBy types x.cell.access) (sym own_types) (subst (AdjustsBy (program_form program).types) (sym like.0) (remains, named, works_there))
+        subst (λ (types : List TypeForm). AdjustsBy types x.cell.access) (sym own_types) (subst (AdjustsBy (program_form program).types) (sym like.0) ((remains, come_from), named, works_there))
 
     adjusts_to : AdjustsTo own (Names f.object) f.tasks f.after heap f.places f.lower
     adjusts_to = record {
@@ -279,7 +281,8 @@ module _ (program : Program) (s : State) (f : Adjusting program s) (a b : Activa
       found = found;
       there = rw like.1 refl;
       record_type = f.record_type;
-      left = adjusts_by.0;
+      left = adjusts_by.0.0;
+      copied = adjusts_by.0.1;
       named = adjusts_by.1;
       works = adjusts_by.2;
     }
@@ -328,6 +331,8 @@ pub record EndsCopy (program : Program) (s : State) (f : Adjusting program s) (h
   pub copied : CopyLeft (program_form program).types f.access f.record_type f.tasks
   pub aside : s.heap ≡ blanked (hiding (owners_left (program_form program).types f.access f.tasks) f.object) heap
   pub named : NameThere heap (values_at (owners_left (program_form program).types f.access f.tasks) x.cell.values)
+  pub come_from :
+      AreCopied (program_form program).types heap f.object f.record_type copied.first (owners_left (program_form program).types f.access f.tasks) x.cell.values
 
 -- When the end of the body is next, what waits for it goes on.
 pub adjusting_ends :
@@ -337,6 +342,6 @@ pub adjusting_ends :
 adjusting_ends program s f a b rest acts_so ends_now masters_are get_back heap c = (
   left program s f a b rest acts_so ends_now masters_are get_back heap,
   goes_now program s f a b rest acts_so ends_now masters_are get_back heap,
-  crosses_back program s f a b rest acts_so ends_now masters_are get_back heap c.x c.found c.copied c.aside c.named,
+  crosses_back program s f a b rest acts_so ends_now masters_are get_back heap c.x c.found c.copied c.aside c.named c.come_from,
   refl,
 )

@@ -91,6 +91,8 @@ pub mod Assigned
 pub mod Taken
 -- what the items of an allocator give
 pub mod Filled
+-- where records that are copied come from
+pub mod Originals
 -- records that are copied as items
 pub mod Copied
 -- what is relied on while a new object is made
