@@ -1,6 +1,6 @@
 -- The object of a name stays where a component gets a value, where a new one comes to be, and where another one changes.
 
-use Rattle.std.proofs.Common.{◌≡◌, ℕ, zero, suc, List, [], ◌∷◌, ◌++◌, Option, Some, None, refl, sym, ap, ◌∙◌, inl, inr}
+use Rattle.std.proofs.Common.{◌≡◌, ◌≢◌, ◌==◌, false, ℕ, zero, suc, List, [], ◌∷◌, ◌++◌, Option, Some, None, refl, sym, ap, ◌∙◌, inl, inr}
 use Rattle.std.specs.List.{slice_get, slice_set}
 use Rattle.std.proofs.lemmas.Bool.Decides.{eqb_tells}
 use Rattle.ada_meaning.specs.declared.state.Id.{Id}
@@ -54,18 +54,15 @@ stored_remains o h (Part p place) c u = none_changes o h
 pub created_remains : (o : Id) (h : List Object) (words : ℕ) (cell : Cell Value) → Remains o h (create h words cell)
 created_remains o h words cell x is exists = (x, add_there h (new_object cell) x o.0 is, exists)
 
--- Numbers that are apart are so the other way round.
-sym_apart : (a b : ℕ) → (a == b) ≡ false → (b == a) ≡ false
-sym_apart a b apart = elim (eqb_tells b a) [
-  | inl one ↦ absurd (let same : (a == b) ≡ true = elim (eqb_tells a b) [ inl here ↦ here.0 | inr there ↦ absurd (let e = there.1 in e (sym one.1)) ] in cc (same, apart))
-  | inr other ↦ other.0
-]
+-- Numbers that are told apart are so the other way round.
+apart_back : (a b : ℕ) → (a == b) ≡ false → b ≢ a
+apart_back a b apart = elim (eqb_tells a b) [ inl one ↦ absurd (let same = one.0 in cc (same, apart)) | inr other ↦ (λ same. other.1 (sym same)) ]
 
 -- It stays where another one changes.
 other_changed :
     (o : Id) (h : List Object) (change : Object → Object) (p : Id) (found : Option Object) → (p.0 == o.0) ≡ false → Remains o h (changed change found h p)
 other_changed o h change p None apart = none_changes o h
-other_changed o h change p (Some x) apart = λ y is exists. (y, set_there h p.0 o.0 (change x) (sym_apart p.0 o.0 apart) ∙ is, exists)
+other_changed o h change p (Some x) apart = λ y is exists. (y, set_there h p.0 o.0 (change x) (apart_back p.0 o.0 apart) ∙ is, exists)
 
 pub other_remains : (o : Id) (h : List Object) (change : Object → Object) (v : Value) → IsOther o v → Remains o h (on_object change h v)
 other_remains o h change Null other = none_changes o h

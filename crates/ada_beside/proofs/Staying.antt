@@ -31,10 +31,10 @@ use Rattle.ada_meaning.specs.declared.state.Value.TheVariants.{Null}
 use Rattle.ada_meaning.specs.Event.{Back, Followed, Quiet}
 use Rattle.ada_meaning.specs.Frame.{Treatment, begins, ends, Frame, is_loop, is_return, is_master, Landing, passes_on, goes_behind, goes_in, breaks_off, escapes, operation_landing, handler_landing, exception_landing, landing}
 use Rattle.ada_meaning.specs.Frame as frame
-use Rattle.ada_meaning.specs.State.{Destination, Item, Master, Owned, declared, collection, record_object, storage_pool, home_of, pools_in, pool_for, counted, type_housed}
+use Rattle.ada_meaning.specs.State.{Destination, Item, Master, Owned, declared, collection, record_object, storage_pool, home_of, pools_in, pool_for, pool_freed_to, counted, type_housed}
 use Rattle.ada_meaning.specs.Heap.{Cell, Found, on_null, on_gone, on_other, finds}
-use Rattle.ada_meaning.specs.Step.{halts, moves, numbered, same_pool, pool_freed_to, end_next, told_back, given_back, back_next, freeing, free_next, freed_next, free_component_next, free_in_next, frees_next, all_tasks, treating, at, first_or, older, places, operands, set_operands, computed, popped, owned, entered, shorter, put, jumping, in_front, held, newest, reading, component_next, follow_next, path_next, before_last, last_of, named_next, holder_next, place_in, expression_next, null_test_next, is_decided, link_next, links_next, outcome_next, items_next, copied_next, copies_next, record_in, initialized, new_cell, answered, new_next, right_next, assign_next, target_next, stored_next, store_next, branches_next, decided_next, turn_next, repeats_next, turned_next, count_turn_next, ranges_next, gets_next, received_next, receive_next, exit_next, exited_next, stmt_next, stmts_next, line_next, declarations_next, item_leave_next, master_leave_next, leave_next, frame_next, landed, unwound, pass_next}
-use Rattle.ada_meaning.specs.Named.{Object, object_at, State, Next, named, an_integer, a_boolean, whole, inside, look, store, created, create, finish, finished, back, returned, part, parted, lent, standing, reads_integer, reads_boolean, reads_null, unary_given, binary_given, next}
+use Rattle.ada_meaning.specs.Step.{halts, moves, numbered, same_pool, end_next, told_back, given_back, back_next, freeing, free_next, freed_next, free_component_next, free_in_next, frees_next, all_tasks, treating, at, first_or, older, places, operands, set_operands, computed, popped, owned, entered, shorter, put, jumping, in_front, held, newest, reading, component_next, follow_next, path_next, before_last, last_of, named_next, holder_next, place_in, expression_next, null_test_next, is_decided, link_next, links_next, outcome_next, items_next, copied_next, copies_next, record_in, initialized, new_cell, answered, new_next, right_next, assign_next, target_next, stored_next, store_next, branches_next, decided_next, turn_next, repeats_next, turned_next, count_turn_next, ranges_next, gets_next, received_next, receive_next, exit_next, exited_next, stmt_next, stmts_next, line_next, declarations_next, item_leave_next, master_leave_next, leave_next, frame_next, landed, unwound, pass_next}
+use Rattle.ada_meaning.specs.Named.{Object, object_at, State, Next, named, an_integer, a_boolean, whole, inside, look, store, created, create, on_object, finished, returned, parted, lent, standing, reads_integer, reads_boolean, reads_null, unary_given, binary_given, next}
 use Rattle.ada_tracked.specs.Frames.{View}
 use Rattle.ada_tracked.specs.Law.{NewestHousesNone, InnermostHousesNone, TakesNone}
 use Rattle.ada_tracked.specs.Looking.{LandsElsewhere, HoldsElsewhere, LeadsElsewhere, HolderIsElsewhere, FreedIsElsewhere, StatementsLookElsewhere, NextLooksElsewhere, FirstLooksElsewhere, LooksElsewhere}
@@ -323,7 +323,7 @@ module _ (types : List TypeDefinition) (bodies : List BodyForm) (w : View) (reac
   end_goes v on_gone s other h g = tt
   end_goes v on_other s other h g = tt
   end_goes v (finds cell) s other h g = record {
-    confined = (stays (record s { heap = finish s.heap v }) h g).confined;
+    confined = (stays (record s { heap = on_object finished s.heap v }) h g).confined;
     remains = other_remains w.object s.heap finished v other;
   }
 
@@ -335,8 +335,8 @@ module _ (types : List TypeDefinition) (bodies : List BodyForm) (w : View) (reac
   given_goes : (b : Bool) (v : Value) (cause : Cause) (cell : Cell Value) (s : State) → IsOther w.object v
       → Goes s (if b then given_back named v cause cell s else halts (Erroneous GivesElsewhere))
   given_goes true v cause cell s other h g =
-      told_goes cell.home.pool v (Back v cell.access cell.number cell.home.pool cell.home.subpool cause) s.heap (record s { heap = back s.heap v }) (record {
-        confined = (stays (record s { heap = back s.heap v }) h g).confined;
+      told_goes cell.home.pool v (Back v cell.access cell.number cell.home.pool cell.home.subpool cause) s.heap (record s { heap = on_object returned s.heap v }) (record {
+        confined = (stays (record s { heap = on_object returned s.heap v }) h g).confined;
         remains = other_remains w.object s.heap returned v other;
       })
   given_goes false v cause cell s other h g = tt
@@ -354,7 +354,7 @@ module _ (types : List TypeDefinition) (bodies : List BodyForm) (w : View) (reac
       → Goes s (if b then moves e (freeing named types access v cell clears s) else halts (Erroneous GivesElsewhere))
   freeing_goes true access v cell clears e s other cleared h g =
       let k = frame.Ends v ∷ frame.GivesBack v (Freeing s.next) (Some (pool_freed_to (home_of access s.masters))) ∷ clears ∷ s.control in
-      let begun : State = numbered (record s { heap = part s.heap v; control = k }) in
+      let begun : State = numbered (record s { heap = on_object parted s.heap v; control = k }) in
       let behind : BodyIsConfined w reaches k = (other, (other, cleared s.control h)) in
       treated_goes v (ends (Freeing s.next)) (all_tasks types cell.access WholeFirst) s.heap begun other (other_remains w.object s.heap parted v other) behind refl
   freeing_goes false access v cell clears e s other cleared h g = tt

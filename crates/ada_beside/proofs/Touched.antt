@@ -118,7 +118,7 @@ module _ (types : List TypeDefinition) (w : View) (reaches beside : ℕ → Bool
     -- A Free looks at no hidden component as it begins (13.11.2).
     freed_open :
         (x : ℕ) (cs : List ℕ) → IsConfinedFrom w.tracks.first reaches x cs → FreedIsElsewhere w.object s.heap x cs (held named s x)
-        → FreedIsOpen (hidden_beside w beside) no_ghosts cs (held named s x)
+        → FreedIsOpen (hidden_beside w beside) no_ghosts s cs (held named s x)
     freed_open x [] from elsewhere = in_sight (held named s x)
     freed_open x (c ∷ cs) from elsewhere = holder_open x (c ∷ cs) from elsewhere
 

@@ -53,6 +53,8 @@ pub mod Placed
 pub mod SeenOwners
 -- where the parts lie that are left
 pub mod PartsApart
+-- where a record is copied from another one of its object
+pub mod CopiedApart
 -- what every step keeps
 pub mod Invariant
 -- objects are stored in each state
