@@ -189,7 +189,7 @@ names_of heap (c ∷ bs) vs b has there =
     ]
 
 -- Where it is so of each, it is so of all.
-names_each :
+pub names_each :
     (heap : List Object) (bs : List ℕ) (vs : List Value) → ((b : ℕ) → Contains bs b → NamesThere heap (slice_index_or vs b Null)) → NameThere heap (values_at bs vs)
 names_each heap [] vs each = tt
 names_each heap (b ∷ bs) vs each = (each b (head_in b bs), names_each heap bs vs (λ c has. each c (tail_in b c bs has)))

@@ -296,6 +296,8 @@ pub mod AdjustingEnds
 pub mod AdjustingGoes
 -- states in which components of an object are put aside
 mod PutAside
+-- what is put aside meanwhile names what is there
+pub mod CopiedNames
 -- each step of such a body, where other parts of the copy are adjusted later
 pub mod AdjustingCopies
 -- what each step rests on

@@ -88,7 +88,7 @@ aside_here bs o h x found = rw found (set_here h o.0 x (blank_object (shifted 0 
 aside_missing : (bs : List ℕ) (o : Id) (h : List Object) → object_at h o ≡ None → blanked (hiding bs o) h ≡ h
 aside_missing bs o h none = rw none refl
 
-aside_other : (bs : List ℕ) (o : Id) (h : List Object) (i : ℕ) → i ≢ o.0 → slice_get (blanked (hiding bs o) h) i ≡ slice_get h i
+pub aside_other : (bs : List ℕ) (o : Id) (h : List Object) (i : ℕ) → i ≢ o.0 → slice_get (blanked (hiding bs o) h) i ≡ slice_get h i
 aside_other bs o h i ne = by (object_at h o) refl
   where
     by : (found : Option Object) → object_at h o ≡ found → slice_get (changed (blank_object (shifted 0 bs)) found h o) i ≡ slice_get h i
