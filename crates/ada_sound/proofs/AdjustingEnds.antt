@@ -254,8 +254,8 @@ module _ (program : Program) (s : State) (f : Adjusting program s) (a b : Activa
       (names : ComponentsAreThere s.heap → NameThere heap (values_at (owners_left (program_form program).types f.access f.tasks) x.cell.values))
       (come_from : AreCopied (program_form program).types heap f.object f.record_type remains.first (owners_left (program_form program).types f.access f.tasks) x.cell.values) where
     -- What they name is there: components of the original own it.
-    named : NameThere heap (values_at (owners_left (program_form program).types f.access f.tasks) x.cell.values)
-    named = names (λ q y at there c v holds. components_there s.heap q y at own_fit there c v holds)
+    names_there : NameThere heap (values_at (owners_left (program_form program).types f.access f.tasks) x.cell.values)
+    names_there = names (λ q y at there c v holds. components_there s.heap q y at own_fit there c v holds)
 
     abbrev hides : View
     hides = hiding (owners_left (program_form program).types f.access f.tasks) f.object
@@ -283,7 +283,7 @@ module _ (program : Program) (s : State) (f : Adjusting program s) (a b : Activa
     adjusts_by =
         let works_there =
         subst (λ (objects : List Object). Working own objects f.places f.lower (λ rooms holds. RunsOn own f.after rooms holds × AdjustsAside own f.access f.record_type holds)) aside own_works in
-        subst (λ (types : List TypeForm). AdjustsBy types x.cell.access) (sym own_types) (subst (AdjustsBy (program_form program).types) (sym like.0) ((remains, come_from), named, works_there))
+        subst (λ (types : List TypeForm). AdjustsBy types x.cell.access) (sym own_types) (subst (AdjustsBy (program_form program).types) (sym like.0) ((remains, come_from), names_there, works_there))
 
     adjusts_to : AdjustsTo own (Names f.object) f.tasks f.after heap f.places f.lower
     adjusts_to = record {

@@ -14,7 +14,7 @@ use Rattle.ada_meaning.specs.Frame as frame
 use Rattle.ada_meaning.specs.Frame.{Treatment, begins}
 use Rattle.ada_meaning.specs.Named.{Object, State, named, object_at}
 use Rattle.ada_meaning.specs.Run.{Event}
-use Rattle.ada_meaning.specs.State.{Activation}
+use Rattle.ada_meaning.specs.State.{Activation, Master}
 use Rattle.ada_meaning.specs.Step.{operating, places}
 use Rattle.ada_meaning.specs.declared.event.Birth.TheVariants.{Creation, Copy, Adjustment}
 use Rattle.ada_meaning.specs.declared.event.Birth.{Birth}
@@ -34,7 +34,7 @@ use Rattle.ada_program.specs.declared.program.VariableKind.TheVariants as variab
 use Rattle.ada_quiet.specs.Apart.{body_calls_apart, is_tracker}
 use Rattle.ada_quiet.specs.Bare.{has_bare_objects}
 use Rattle.ada_quiet.specs.Idle.{copies_parts}
-use Rattle.ada_quiet.specs.InUse.{may_be_frugal, adjusts_alone, count_found}
+use Rattle.ada_quiet.specs.InUse.{may_be_frugal, count_found}
 use Rattle.ada_quiet.specs.Simple.{holds_one_value, is_simple_body}
 use Rattle.ada_reaching.specs.Forms.{body_shuns}
 use Rattle.ada_reaching.specs.Reaching.{AreLow, IsGhost}
@@ -196,7 +196,7 @@ module _
     may = frugal_too p tracks.0
 
     simple_so : is_simple_body p.types true c.b ≡ true
-    simple_so = simple_with p.types (adjusts_alone p) c.b tracks.1
+    simple_so = simple_with p.types true c.b tracks.1
 
     thrifty : is_thrifty_body (simple_allowance p.types) false c.b ≡ true
     thrifty = simple_thrifty (simple_allowance p.types) c.b simple_so
@@ -346,66 +346,66 @@ module _
         (omega (arith, begins, first), omega (arith, begins, first, inside, below))
 
     -- It reaches neither the original, if that lies in another object: its type has a part of the type of this Adjust, too.
-    module _ (copied : CopiedFrom p.types s.heap o r l.first owners x.cell.values) (ne : copied.source ≢ o) where
+    module _ (origin : CopiedFrom p.types s.heap o r l.first owners x.cell.values) (ne : origin.source ≢ o) where
       abbrev around : ℕ
-      around = copied.object.cell.access
+      around = origin.object.cell.access
 
-      original_operable : IsOperable p.types around c.of (copied.part + own_lies.count)
+      original_operable : IsOperable p.types around c.of (origin.part + own_lies.count)
       original_operable = (
-        placed own_lies.placed.record_type c.of (copied.first + own_lies.before) (copied.part + own_lies.count) own_lies.placed.numbered
-            (walks_to p.types (object_named p.types (Some around)) (Some r) (Some own_lies.placed.record_type) copied.first copied.part own_lies.before own_lies.count
-            (copied.lies.1 (l.sees.counts l.of l.numbered)) own_lies.walks),
+        placed own_lies.placed.record_type c.of (origin.first + own_lies.before) (origin.part + own_lies.count) own_lies.placed.numbered
+            (walks_to p.types (object_named p.types (Some around)) (Some r) (Some own_lies.placed.record_type) origin.first origin.part own_lies.before own_lies.count
+            (origin.lies.1 (l.sees.counts l.of l.numbered)) own_lies.walks),
         (called_operable program well x.cell.access r c.of c.part c.tasks l).1,
       )
 
       original_shunned : body_shuns p.types (is_around around) (bare_apart program) c.b ≡ true
       original_shunned =
-          shuns_around program well spares_adjusted spares_own around c.of (copied.part + own_lies.count) c.number original_operable
+          shuns_around program well spares_adjusted spares_own around c.of (origin.part + own_lies.count) c.number original_operable
           (adjust_called c.by (operations_of program.types.items c.of) c.number c.copies c.called) c.b c.there true simple_so
 
-      original_ghost : (accessed : Bool) → is_access p.types around ≡ accessed → (q : Id) → is_this copied.source q ≡ true
-          → IsGhost p.types (is_around around) (not accessed && is_this copied.source q) (object_at s.heap q)
+      original_ghost : (accessed : Bool) → is_access p.types around ≡ accessed → (q : Id) → is_this origin.source q ≡ true
+          → IsGhost p.types (is_around around) (not accessed && is_this origin.source q) (object_at s.heap q)
       original_ghost true is q same = record {
-        object = copied.object;
-        there = subst (λ (u : Id). object_at s.heap u ≡ Some copied.object) (id_is copied.source q (is_same copied.source.0 q.0 same)) copied.found;
+        object = origin.object;
+        there = subst (λ (u : Id). object_at s.heap u ≡ Some origin.object) (id_is origin.source q (is_same origin.source.0 q.0 same)) origin.found;
         shunned = eq_self around;
         accessed = is;
       }
       original_ghost false is q same = rw same (record {
-        object = copied.object;
-        there = subst (λ (u : Id). object_at s.heap u ≡ Some copied.object) (id_is copied.source q (is_same copied.source.0 q.0 same)) copied.found;
+        object = origin.object;
+        there = subst (λ (u : Id). object_at s.heap u ≡ Some origin.object) (id_is origin.source q (is_same origin.source.0 q.0 same)) origin.found;
         declared = is;
       })
 
-      original_low : AreLow (is_this copied.source) s.masters s.heap
+      original_low : AreLow (is_this origin.source) s.masters s.heap
       original_low q y is found listed =
           let stored = stored_unblanked (hiding (owners_left (known_in program a.procedure gs).program.types x.cell.access (performs c.of c.part ∷ c.tasks)) o) s.heap c.to.works.stored in
           let below = home_low s.heap s.masters q stored y found (listed_out q y found listed stored) in
           omega (arith, below)
 
-      original_shuns : Shunned program copied.source behind s.masters real
+      original_shuns : Shunned program origin.source behind s.masters real
       original_shuns = record {
         around = around;
-        unnamed = λ q. not (is_access p.types around) && is_this copied.source q;
+        unnamed = λ q. not (is_access p.types around) && is_this origin.source q;
         reaching =
-            operation_reaches p (is_around around) (bare_apart program) (is_this copied.source) (λ q. not (is_access p.types around) && is_this copied.source q) c.number c.b
+            operation_reaches p (is_around around) (bare_apart program) (is_this origin.source) (λ q. not (is_access p.types around) && is_this origin.source q) c.number c.b
             (Part o place) behind (record s { activations = a ∷ rest; mode = Running }) c.there original_shunned (original_ghost (is_access p.types around) refl)
-            (λ q is. (and_parts (not (is_access p.types around)) (is_this copied.source q) is).1) original_low
-            (apart_is copied.source.0 o.0 (λ same. ne (id_is copied.source o same)));
+            (λ q is. (and_parts (not (is_access p.types around)) (is_this origin.source q) is).1) original_low
+            (apart_is origin.source.0 o.0 (λ same. ne (id_is origin.source o same)));
       }
 
     -- So what is put aside is left alone.
     aside_by : AreCopied p.types s.heap o r l.first owners x.cell.values → LeavesAlone program w o r l.first owners x.cell.values behind s.masters real
     aside_by (inl none) = inl none
-    aside_by (inr copied) =
+    aside_by (inr origin) =
         let forms = confined_body p well c.number c.b c.there w.tracks components simple_so in
         inr (record {
           reaches = reaches_record p.types components.object;
           beside = beside_record;
           within = within_record;
           confined = record { control = ((forms.declarations, forms.statements, forms.handlers), tt); operands = tt };
-          copied = copied;
-          original = elim (same_id copied.source o) [ inl itself ↦ inl itself | inr ne ↦ inr (ne, original_shuns copied ne) ];
+          copied = origin;
+          original = elim (same_id origin.source o) [ inl itself ↦ inl itself | inr ne ↦ inr (ne, original_shuns origin ne) ];
         })
 
     left_alone : LeftAlone program x.cell.access r c.tasks w o owners x.cell.values behind s.masters real

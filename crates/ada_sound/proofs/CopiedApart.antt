@@ -76,7 +76,7 @@ module _ (program : Program) (well : IsWellFormed (program_form program)) (rows 
       → LiesOutside to (count_found (record_components types r)) (first + d)
   original_outside r first to d some lie o = by (cases_lt (first + d) to) (cases_lt (first + d) (to + count_found (record_components types r)))
     where
-      abbrev object : Option ℕ
+      object : Option ℕ
       object = object_named types (Some lie.access)
 
       one : WalksTo types object (Some r) first lie.part

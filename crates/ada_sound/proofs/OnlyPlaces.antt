@@ -296,7 +296,7 @@ module _ (types : List TypeForm) (fit : list_all (type_fits types) types ≡ tru
 
           both : q.part + y < (p.part + k) + part_count types t → p.part + k < (q.part + y) + part_count types t → AreApart (p.part + k) (q.part + y) (part_count types t)
           both high low =
-              let one = elim (cases_lt (q.part + y) (p.part + k)) [
+              let one : p ≡ q = elim (cases_lt (q.part + y) (p.part + k)) [
                 | inl less ↦
                     one_of (p.part + k) (omega arith) (omega (arith, high, less, within, inside)) (omega (arith, less))
                     (omega (arith, low, within_two, inside_two))
