@@ -49,16 +49,16 @@ adjusts_set known heap places ms o x y found same stage names copied works v tas
     let before : Working known (blanked (hiding owners o) heap) places ms more = rw (this, one) at to.works in
     let there = rw one at to.named in
     let both_so : (left : CopyLeft known.program.types to.x.cell.access to.record_type tasks)
-        × AreCopied known.program.types heap to.o to.record_type left.first (owners_left known.program.types to.x.cell.access tasks) to.x.cell.values =
+    × AreCopied known.program.types heap to.o to.record_type left.first (owners_left known.program.types to.x.cell.access tasks) to.x.cell.values =
     (to.left, to.copied) in
     let left_so : (left : CopyLeft known.program.types x.cell.access to.record_type tasks)
-        × AreCopied known.program.types heap to.o to.record_type left.first (owners_left known.program.types x.cell.access tasks) x.cell.values =
+    × AreCopied known.program.types heap to.o to.record_type left.first (owners_left known.program.types x.cell.access tasks) x.cell.values =
     rw one at both_so in
     let copied_so = copied to.record_type left_so.0.first owners (rw this at left_so.1) in
     let left_now : (left : CopyLeft known.program.types y.cell.access to.record_type tasks)
-        × AreCopied known.program.types (slice_set heap o.0 y) o to.record_type left.first (owners_left known.program.types y.cell.access tasks) y.cell.values =
+    × AreCopied known.program.types (slice_set heap o.0 y) o to.record_type left.first (owners_left known.program.types y.cell.access tasks) y.cell.values =
     subst (λ (access : ℕ). (left : CopyLeft known.program.types access to.record_type tasks)
-        × AreCopied known.program.types (slice_set heap o.0 y) o to.record_type left.first (owners_left known.program.types access tasks) y.cell.values) (sym same)
+    × AreCopied known.program.types (slice_set heap o.0 y) o to.record_type left.first (owners_left known.program.types access tasks) y.cell.values) (sym same)
     (left_so.0, copied_so) in
     record {
       o = o;

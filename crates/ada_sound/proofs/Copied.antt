@@ -210,12 +210,19 @@ module _ (known : Known) (heap : List Object) (places : List Value) where
           let own : record_components known.program.types r ≡ Some kinds = rw (← of, ← same) is in
           let front : reverse (take (length kinds) (in_front vs operands)) ≡ vs = ap (λ (n : ℕ). reverse (take n (in_front vs operands))) (sym as_many) ∙ taken_back vs operands in
           let here : Original known.program.types heap r vs = subst (λ (u : ℕ). Original known.program.types heap u vs) (ap (λ (q : RecordPathForm). q.record_type) same ∙ of) original in
-          inr (r, first, inr (last, (
-            kinds,
-            own,
-            rw (← as_many) (names_in_front heap vs operands names),
-            subst (λ (us : List Value). Original known.program.types heap r us) (sym front) here,
-          )))
+          inr (
+            r,
+            first,
+            inr (
+              last,
+              (
+                kinds,
+                own,
+                rw (← as_many) (names_in_front heap vs operands names),
+                subst (λ (us : List Value). Original known.program.types heap r us) (sym front) here,
+              ),
+            ),
+          )
   copies_on p kinds items (f ∷ k) operands rooms holds is g vs as_many names original = g
 
 -- Items that use no path that breaks a rule.

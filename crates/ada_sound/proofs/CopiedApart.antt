@@ -46,8 +46,7 @@ module _ (program : Program) (well : IsWellFormed (program_form program)) (rows 
       let shift = shifted_cases within.placed.base (declared_owners types within.placed.record_type) c
       (subst (λ (cs : List ℕ). Contains cs c) within.placed.owners some.has) in
       let first = within.first_so in
-      let is = shift.2 in
-      (
+      let is = shift.2 in (
         within.before + shift.0,
         omega (arith, first, is),
         record {

@@ -228,8 +228,7 @@ module _ (known : Known) (types : List TypeDefinition) (reaches : Reaches known 
       × ((part : ℕ) × PartsLie known.program.types (object_named known.program.types (Some object.cell.access)) (Some t) first part)
   lies_typed first t o object below kinds found (ks, access, rs, is, components, lies, parts, more) computed =
       let newest : AreComputed known.program.types (cells_of s.heap) (of_kind (variable.Access access) ∷ ks) (Names o ∷ below) = rw is at computed in
-      let of : Some access.0 ≡ Some object.cell.access = kind_names known.program.types s.heap (variable.Access access) o object newest.0 found in
-      (
+      let of : Some access.0 ≡ Some object.cell.access = kind_names known.program.types s.heap (variable.Access access) o object newest.0 found in (
         (rs, components),
         subst (λ (n : Option ℕ). (part : ℕ) × PartsLie known.program.types (object_named known.program.types n) (Some t) first part) of parts,
       )
