@@ -49,12 +49,14 @@ module _ (w : View) (reaches : ℕ → Bool) where
   pub unawaited : (m : Mode) (k : List (Frame Value)) (vs : List Value) → awaits_holder k ≡ false → OperandsAreConfined w reaches m k vs
   unawaited Running (frame.Targets c right ∷ k) vs none = absurd (cc)
   unawaited Running (frame.Receives c ∷ k) vs none = absurd (cc)
+  unawaited Running (frame.FreesIn access c ∷ k) vs none = absurd (cc)
   unawaited m k vs none = tt
 
   -- Operands of which the newest one leads to another object are confined, whatever comes next.
   pub other_confined : (m : Mode) (k : List (Frame Value)) (vs : List Value) → IsOther w.object (first_or Null vs) → OperandsAreConfined w reaches m k vs
   other_confined Running (frame.Targets c right ∷ k) vs other = inl other
   other_confined Running (frame.Receives c ∷ k) vs other = inl other
+  other_confined Running (frame.FreesIn access c ∷ k) vs other = inl other
   other_confined m k vs other = tt
 
   -- Operands are confined of which the newest one has been found for what waits behind.
@@ -77,6 +79,13 @@ module _ (w : View) (reaches : ℕ → Bool) where
       → OperandsAreConfined w reaches m (frame.Receives c ∷ k) vs
   receiver_confined c k Running vs reached = reached
   receiver_confined c k m vs reached = tt
+
+  -- So it is where what a component holds is about to be freed.
+  pub freer_confined :
+      (access c : ℕ) (k : List (Frame Value)) (m : Mode) (vs : List Value) → StoresReached w reaches (first_or Null vs) c
+      → OperandsAreConfined w reaches m (frame.FreesIn access c ∷ k) vs
+  freer_confined access c k Running vs reached = reached
+  freer_confined access c k m vs reached = tt
 
   -- A path reads a component of another object first, or one of the formal parameter that the body may reach.
   pub start_reached :

@@ -1,4 +1,4 @@
--- Each step of a confined body leaves it so, and no object ceases to exist.
+-- Each step of a confined body leaves it so, and its object stays.
 
 use Rattle.std.proofs.Common.{◌≡◌, ℕ, ◌+◌, Bool, true, false, List, [], ◌∷◌, length, drop, Option, Some, None, Result, Ok, Err, refl, sym, subst, inl, inr, arith}
 use Rattle.std.specs.Prelude.{not, ℤ, pos, ◌+ℤ◌, int_le, if◌then◌else◌}
@@ -15,31 +15,36 @@ use Rattle.ada_program.specs.Form.{ExpressionForm, integer, boolean, reads, is_n
 use Rattle.ada_program.specs.Handling.{some_takes, handler_of}
 use Rattle.ada_program.specs.ProgramForm.{BodyForm}
 use Rattle.ada_program.specs.Typed.{words_of, width_of, pool_named}
-use Rattle.ada_parts.specs.declared.tasks.Direction.TheVariants.{PartsFirst}
+use Rattle.ada_parts.specs.declared.tasks.Direction.TheVariants.{PartsFirst, WholeFirst}
 use Rattle.ada_parts.specs.Task.{Task}
 use Rattle.ada_meaning.specs.declared.event.Birth.TheVariants.{Creation}
+use Rattle.ada_meaning.specs.declared.event.Cause.{Cause}
+use Rattle.ada_meaning.specs.declared.event.Cause.TheVariants.{Freeing}
+use Rattle.ada_meaning.specs.declared.event.Halt.TheVariants.{Erroneous}
+use Rattle.ada_meaning.specs.declared.event.Why.TheVariants.{GivesElsewhere}
+use Rattle.ada_meaning.specs.Run.{Event}
 use Rattle.ada_meaning.specs.declared.state.Id.{Id}
 use Rattle.ada_meaning.specs.declared.state.Mode.{Mode}
 use Rattle.ada_meaning.specs.declared.state.Mode.TheVariants.{Running, Raising, Exiting, Returning}
 use Rattle.ada_meaning.specs.declared.state.Value.{Value}
 use Rattle.ada_meaning.specs.declared.state.Value.TheVariants.{Null}
-use Rattle.ada_meaning.specs.Event.{Quiet}
-use Rattle.ada_meaning.specs.Frame.{Treatment, begins, Frame, is_loop, is_return, is_master, Landing, passes_on, goes_behind, goes_in, breaks_off, escapes, operation_landing, handler_landing, exception_landing, landing}
+use Rattle.ada_meaning.specs.Event.{Back, Followed, Quiet}
+use Rattle.ada_meaning.specs.Frame.{Treatment, begins, ends, Frame, is_loop, is_return, is_master, Landing, passes_on, goes_behind, goes_in, breaks_off, escapes, operation_landing, handler_landing, exception_landing, landing}
 use Rattle.ada_meaning.specs.Frame as frame
-use Rattle.ada_meaning.specs.State.{Destination, Item, Master, Owned, declared, collection, record_object, storage_pool, home_of, pools_in, pool_for, counted, type_housed}
+use Rattle.ada_meaning.specs.State.{Destination, Item, Master, Owned, declared, collection, record_object, storage_pool, home_of, pools_in, pool_for, pool_freed_to, counted, type_housed}
 use Rattle.ada_meaning.specs.Heap.{Cell, Found, on_null, on_gone, on_other, finds}
-use Rattle.ada_meaning.specs.Step.{moves, all_tasks, treating, at, first_or, older, places, operands, set_operands, computed, popped, owned, entered, shorter, put, jumping, in_front, held, newest, reading, component_next, follow_next, path_next, before_last, last_of, named_next, holder_next, place_in, expression_next, null_test_next, is_decided, link_next, links_next, outcome_next, items_next, copied_next, copies_next, record_in, newest_ones, without_newest, stored_from, record_assign_next, record_target_next, record_stored_next, store_record_next, initialized, new_cell, answered, new_next, right_next, assign_next, target_next, stored_next, store_next, branches_next, decided_next, turn_next, repeats_next, turned_next, count_turn_next, ranges_next, gets_next, received_next, receive_next, exit_next, exited_next, stmt_next, stmts_next, line_next, declarations_next, item_leave_next, master_leave_next, leave_next, frame_next, landed, unwound, pass_next}
-use Rattle.ada_meaning.specs.Named.{Object, object_at, State, Next, named, an_integer, a_boolean, whole, inside, look, store, created, create, reads_integer, reads_boolean, reads_null, unary_given, binary_given, next}
+use Rattle.ada_meaning.specs.Step.{moves, all_tasks, treating, at, first_or, older, places, operands, set_operands, computed, popped, owned, entered, shorter, put, jumping, in_front, held, newest, reading, component_next, follow_next, path_next, before_last, last_of, named_next, holder_next, place_in, expression_next, null_test_next, is_decided, link_next, links_next, outcome_next, items_next, copied_next, copies_next, record_in, newest_ones, without_newest, stored_from, record_assign_next, record_target_next, record_stored_next, store_record_next, initialized, new_cell, answered, new_next, right_next, assign_next, target_next, stored_next, store_next, branches_next, decided_next, turn_next, repeats_next, turned_next, count_turn_next, ranges_next, gets_next, received_next, receive_next, exit_next, exited_next, stmt_next, stmts_next, line_next, declarations_next, item_leave_next, master_leave_next, leave_next, frame_next, landed, unwound, pass_next, halts, numbered, same_pool, end_next, told_back, given_back, back_next, freeing, free_next, freed_next, free_component_next, free_in_next, frees_next}
+use Rattle.ada_meaning.specs.Named.{Object, object_at, State, Next, named, an_integer, a_boolean, whole, inside, look, store, created, create, reads_integer, reads_boolean, reads_null, unary_given, binary_given, next, on_object, finished, returned, parted, lent, standing}
 use Rattle.ada_tracked.specs.Frames.{View}
 use Rattle.ada_tracked.specs.Law.{NewestHousesNone, InnermostHousesNone, TakesNone}
 use Rattle.ada_tracked.specs.Copying.{StatementsAssignBare, FirstAssignsBare, AssignsBare}
-use Rattle.ada_tracked.specs.Looking.{LandsElsewhere, HoldsElsewhere, LeadsElsewhere, HolderIsElsewhere, StatementsLookElsewhere, NextLooksElsewhere, FirstLooksElsewhere, LooksElsewhere}
+use Rattle.ada_tracked.specs.Looking.{LandsElsewhere, HoldsElsewhere, LeadsElsewhere, HolderIsElsewhere, StatementsLookElsewhere, NextLooksElsewhere, FirstLooksElsewhere, LooksElsewhere, FreedIsElsewhere}
 use Rattle.ada_tracked.specs.Seen.{IsOther, awaits_holder, IsWatched}
 use Rattle.ada_tracked.specs.Simple.{IsVariable}
 use Rattle.ada_beside.specs.Confined.{IsConfinedFrom, ExpressionIsConfined, LinksAreConfined, ConditionIsConfined, ItemsAreConfined, RightIsConfined, DeclarationsAreConfined, StatementIsConfined, StatementsAreConfined, BranchesAreConfined, HandlersAreConfined, StoresReached, FrameIsConfined, BodyIsConfined, OperandsAreConfined, IsConfined}
-use Rattle.ada_beside.specs.Law.{NoneCeases, TreatsNone, IsWithin, GoesOn, AllGoOn}
-use Rattle.ada_beside.proofs.Operands.{set_so, holds_any, holder_starts, holder_holds, unawaited, other_confined, landed_confined, target_confined, receiver_confined, start_reached}
-use Rattle.ada_beside.proofs.Ceasing.{none_changes, stored_ceases_none, record_ceases_none, created_ceases_none}
+use Rattle.ada_beside.specs.Law.{TreatsNone, IsWithin, GoesOn, AllGoOn, Remains}
+use Rattle.ada_beside.proofs.Operands.{set_so, holds_any, holder_starts, holder_holds, unawaited, other_confined, landed_confined, target_confined, receiver_confined, start_reached, freer_confined}
+use Rattle.ada_beside.proofs.Ceasing.{none_changes, record_remains, stored_remains, created_remains, other_remains}
 use Rattle.ada_beside.proofs.Touched.{unless_it_ends}
 
 -- A new object is none that is there already.
@@ -57,7 +62,7 @@ module _ (types : List TypeDefinition) (bodies : List BodyForm) (w : View) (reac
   stays : (s : State) → BodyIsConfined w reaches s.control → awaits_holder s.control ≡ false → GoesOn w reaches s.heap s
   stays s h g = record {
     confined = record { control = h; operands = unawaited w reaches s.mode s.control (operands s) g };
-    none_ceases = none_changes s.heap;
+    remains = none_changes w.object s.heap;
   }
 
   -- A body goes on with one operand more.
@@ -70,7 +75,7 @@ module _ (types : List TypeDefinition) (bodies : List BodyForm) (w : View) (reac
       let none = other_confined w reaches m s.control [] refl in
       record {
         confined = record { control = h; operands = set_so (λ vs. OperandsAreConfined w reaches m s.control vs) [] s.activations none none };
-        none_ceases = none_changes s.heap;
+        remains = none_changes w.object s.heap;
       }
 
   -- A body goes on with a value that has been found for what waits behind it.
@@ -85,7 +90,7 @@ module _ (types : List TypeDefinition) (bodies : List BodyForm) (w : View) (reac
           (other_confined w reaches s.mode s.control [] refl)
           (landed_confined w reaches awaits s.mode s.control v (operands s) waits landed);
     };
-    none_ceases = none_changes s.heap;
+    remains = none_changes w.object s.heap;
   }
 
   -- A body goes on as a component is read of an object that has been found.
@@ -146,7 +151,7 @@ module _ (types : List TypeDefinition) (bodies : List BodyForm) (w : View) (reac
               (set_so (λ vs. StoresReached w reaches (first_or Null vs) n) (whole v ∷ operands s) s.activations (inl refl)
               (start_reached w reaches (places s) x c [] p.formal from starts));
         };
-        none_ceases = none_changes s.heap;
+        remains = none_changes w.object s.heap;
       }
   holder_goes c (d ∷ cs) x frame_of s from p elsewhere each waits reached =
       let v = held named s x in
@@ -230,11 +235,11 @@ module _ (types : List TypeDefinition) (bodies : List BodyForm) (w : View) (reac
 
   -- A body goes on behind the treatment of another object, or at once, if nothing is to be done.
   treated_goes :
-      (v : Value) (treatment : Treatment) (tasks : List Task) (before : List Object) (s : State) → IsOther w.object v → NoneCeases before s.heap
+      (v : Value) (treatment : Treatment) (tasks : List Task) (before : List Object) (s : State) → IsOther w.object v → Remains w.object before s.heap
       → BodyIsConfined w reaches s.control → awaits_holder s.control ≡ false → GoesOn w reaches before (at (treating v treatment tasks s.control) s)
-  treated_goes v treatment [] before s other none h g = record { confined = (stays s h g).confined; none_ceases = none }
+  treated_goes v treatment [] before s other none h g = record { confined = (stays s h g).confined; remains = none }
   treated_goes v treatment (task ∷ tasks) before s other none h g =
-      record { confined = (stays (at (treating v treatment (task ∷ tasks) s.control) s) (other, h) refl).confined; none_ceases = none }
+      record { confined = (stays (at (treating v treatment (task ∷ tasks) s.control) s) (other, h) refl).confined; remains = none }
 
   -- A body goes on as the request for the words of an object is granted or refused.
   answered_goes :
@@ -245,7 +250,7 @@ module _ (types : List TypeDefinition) (bodies : List BodyForm) (w : View) (reac
       let cell = new_cell named types access count home s in
       treated_goes v (begins Creation []) (all_tasks types access PartsFirst) s.heap
       (record (set_operands (v ∷ drop count (operands s)) s) { allocated = counted s.allocated; heap = create s.heap words cell })
-      (created_other s.heap w.object p.object p.at_object words) (created_ceases_none s.heap words cell) h g
+      (created_other s.heap w.object p.object p.at_object words) (created_remains w.object s.heap words cell) h g
   answered_goes access count words home s p h g false = jumps (Raising StorageError) s h
 
   -- A body goes on as the words of an object are asked for.
@@ -278,7 +283,7 @@ module _ (types : List TypeDefinition) (bodies : List BodyForm) (w : View) (reac
   stored_goes o c v None s h g = tt
   stored_goes o c v (Some before) s h g = record {
     confined = (stays (record s { heap = store s.heap o c v }) h g).confined;
-    none_ceases = stored_ceases_none s.heap o c v;
+    remains = stored_remains w.object s.heap o c v;
   }
 
   -- A body goes on as a component gets a value of an object that has been looked for.
@@ -303,7 +308,7 @@ module _ (types : List TypeDefinition) (bodies : List BodyForm) (w : View) (reac
   received_goes o c [] (Some before) s h g = jumps (Raising EndError) s h
   received_goes o c (i ∷ is) (Some before) s h g = record {
     confined = (stays (record s { heap = store s.heap o c (an_integer i); input = is }) h g).confined;
-    none_ceases = stored_ceases_none s.heap o c (an_integer i);
+    remains = stored_remains w.object s.heap o c (an_integer i);
   }
 
   -- A body goes on as a component gets that number of an object that has been looked for.
@@ -312,6 +317,93 @@ module _ (types : List TypeDefinition) (bodies : List BodyForm) (w : View) (reac
   receive_goes o c on_gone s h g = tt
   receive_goes o c on_other s h g = tt
   receive_goes o c (finds cell) s h g = received_goes o c s.input (slice_get cell.values c) s h g
+
+  -- A body goes on as an object ceases to exist, which is another one.
+  end_goes : (v : Value) (found : Found (Cell Value)) (s : State) → IsOther w.object v → Goes s (end_next named v found s)
+  end_goes v on_null s other h g = tt
+  end_goes v on_gone s other h g = tt
+  end_goes v on_other s other h g = tt
+  end_goes v (finds cell) s other h g = record {
+    confined = (stays (record s { heap = on_object finished s.heap v }) h g).confined;
+    remains = other_remains w.object s.heap finished v other;
+  }
+
+  -- A body goes on as its words go back.
+  told_goes : (pool : Option ℕ) (v : Value) (e : Event) (before : List Object) (s : State) → GoesOn w reaches before s → AllGoOn w reaches before (told_back named pool v e s)
+  told_goes None v e before s goes = goes
+  told_goes (Some pool) v e before s goes = goes
+
+  given_goes : (b : Bool) (v : Value) (cause : Cause) (cell : Cell Value) (s : State) → IsOther w.object v
+      → Goes s (if b then given_back named v cause cell s else halts (Erroneous GivesElsewhere))
+  given_goes true v cause cell s other h g =
+      told_goes cell.home.pool v (Back v cell.access cell.number cell.home.pool cell.home.subpool cause) s.heap (record s { heap = on_object returned s.heap v }) (record {
+        confined = (stays (record s { heap = on_object returned s.heap v }) h g).confined;
+        remains = other_remains w.object s.heap returned v other;
+      })
+  given_goes false v cause cell s other h g = tt
+
+  back_goes : (v : Value) (cause : Cause) (pool : Option ℕ) (found : Found (Cell Value)) (s : State) → IsOther w.object v → Goes s (back_next named v cause pool found s)
+  back_goes v cause pool on_null s other h g = tt
+  back_goes v cause pool on_gone s other h g = tt
+  back_goes v cause pool on_other s other h g = tt
+  back_goes v cause pool (finds cell) s other h g = given_goes (same_pool pool cell.home.pool) v cause cell s other h g
+
+  -- A body goes on as a Free of another object begins: what held its name becomes null behind that.
+  freeing_goes :
+      (b : Bool) (access : ℕ) (v : Value) (cell : Cell Value) (clears : Frame Value) (e : Event) (s : State) → IsOther w.object v
+      → ((k : List (Frame Value)) → BodyIsConfined w reaches k → BodyIsConfined w reaches (clears ∷ k))
+      → Goes s (if b then moves e (freeing named types access v cell clears s) else halts (Erroneous GivesElsewhere))
+  freeing_goes true access v cell clears e s other cleared h g =
+      let k = frame.Ends v ∷ frame.GivesBack v (Freeing s.next) (Some (pool_freed_to (home_of access s.masters))) ∷ clears ∷ s.control in
+      let begun : State = numbered (record s { heap = on_object parted s.heap v; control = k }) in
+      let behind : BodyIsConfined w reaches k = (other, (other, cleared s.control h)) in
+      treated_goes v (ends (Freeing s.next)) (all_tasks types cell.access WholeFirst) s.heap begun other (other_remains w.object s.heap parted v other) behind refl
+  freeing_goes false access v cell clears e s other cleared h g = tt
+
+  free_goes :
+      (access x : ℕ) (v : Value) (found : Found (Cell Value)) (s : State) → IsVariable w.tracks.first x → IsOther w.object v
+      → Goes s (free_next named types access x v found s)
+  free_goes access x v on_null s variable other h g = stays s h g
+  free_goes access x v on_gone s variable other h g = tt
+  free_goes access x v on_other s variable other h g = tt
+  free_goes access x v (finds cell) s variable other h g =
+      freeing_goes (same_pool (Some (pool_freed_to (home_of access s.masters))) cell.home.pool) access v cell (frame.Clears x) Quiet s other
+      (λ k behind. (variable, behind)) h g
+
+  -- So it is with what a component holds.
+  freed_goes :
+      (access : ℕ) (o : Value) (c : ℕ) (v : Value) (found : Found (Cell Value)) (s : State) → StoresReached w reaches o c → IsOther w.object v
+      → Goes s (freed_next named types access o c v found s)
+  freed_goes access o c v on_null s reached other h g = stays s h g
+  freed_goes access o c v on_gone s reached other h g = tt
+  freed_goes access o c v on_other s reached other h g = tt
+  freed_goes access o c v (finds cell) s reached other h g =
+      freeing_goes (same_pool (Some (pool_freed_to (home_of access s.masters))) cell.home.pool) access v cell (frame.ClearsIn o c) (Followed o) s other
+      (λ k behind. (reached, behind)) h g
+
+  held_goes :
+      (access : ℕ) (o : Value) (c : ℕ) (found : Option Value) (s : State) → StoresReached w reaches o c
+      → ((v : Value) → found ≡ Some v → IsOther w.object v) → Goes s (free_component_next named types access o c found s)
+  held_goes access o c None s reached other h g = tt
+  held_goes access o c (Some v) s reached other h g = freed_goes access o c v (standing s.heap v) s reached (other v refl) h g
+
+  free_in_goes :
+      (access : ℕ) (o : Value) (c : ℕ) (found : Found (Cell Value)) (s : State) → look s.heap o ≡ found → StoresReached w reaches o c
+      → ((cell : Cell Value) (u : Value) → look s.heap o ≡ finds cell → slice_get cell.values c ≡ Some u → IsOther w.object u)
+      → Goes s (free_in_next named types access o c found s)
+  free_in_goes access o c on_null s sought reached other h g = jumps (Raising ConstraintError) s h
+  free_in_goes access o c on_gone s sought reached other h g = tt
+  free_in_goes access o c on_other s sought reached other h g = tt
+  free_in_goes access o c (finds cell) s sought reached other h g =
+      held_goes access o c (slice_get cell.values c) s reached (λ v at. other cell v sought at) h g
+
+  -- A body goes on as a Free begins.
+  frees_goes :
+      (cs : List ℕ) (access x : ℕ) (s : State) → IsConfinedFrom w.tracks.first reaches x cs → IsWatched w (places s) s.heap
+      → FreedIsElsewhere w.object s.heap x cs (held named s x) → Goes s (frees_next named types cs access x s)
+  frees_goes [] access x s from p elsewhere h g = free_goes access x (held named s x) (standing s.heap (held named s x)) s from elsewhere h g
+  frees_goes (c ∷ cs) access x s from p elsewhere h g =
+      holder_goes c cs x (λ last. frame.FreesIn access last) s from p elsewhere (λ n. (tt, h)) (λ n. refl) (λ n. freer_confined w reaches access n s.control s.mode)
 
   -- A body goes on as a branch comes next.
   branches_go : (branches : BranchesForm) (s : State) → BranchesAreConfined w.tracks.first reaches branches → Goes s (branches_next named branches s)
@@ -400,7 +492,7 @@ module _ (types : List TypeDefinition) (bodies : List BodyForm) (w : View) (reac
       let place = place_in named (held named s target.object.root) target.object.selectors target in
       subst (λ (parts : Bool). AllGoOn w reaches s.heap (record_assign_next named parts target items s)) (sym bare)
       (named_goes target.object.selectors target.object.root (at (frame.TargetsRecord place.component target.record_type items ∷ s.control) s) (confined.1, h) refl)
-  stmt_goes (frees access path) behind l s confined p looks bare h g = absurd confined
+  stmt_goes (frees access path) behind l s confined p looks bare h g = frees_goes path.selectors access path.root s confined p looks h g
   stmt_goes (gets target) behind l s confined p looks bare h g = gets_goes target.selectors target.root s.input s confined p looks h g
   stmt_goes (writes e) behind l s confined p looks bare h g = stays (at (frame.Computes e ∷ frame.Writes ∷ s.control) s) (confined, (tt, h)) refl
   stmt_goes (writes_text text) behind l s confined p looks bare h g = stays s h g
@@ -469,7 +561,7 @@ module _ (types : List TypeDefinition) (bodies : List BodyForm) (w : View) (reac
   record_stored_goes v c us None s h g = tt
   record_stored_goes v c us (Some before) s h g = record {
     confined = (stays (record s { heap = stored_from named s.heap v c us }) h g).confined;
-    none_ceases = record_ceases_none s.heap v c us;
+    remains = record_remains w.object s.heap v c us;
   }
 
   -- A body goes on as they get them in an object that has been looked for.
@@ -532,7 +624,8 @@ module _ (types : List TypeDefinition) (bodies : List BodyForm) (w : View) (reac
   frame_goes (frame.Assigns record_type) l s confined untreated none p looks bare reached h = absurd confined
   frame_goes (frame.Receives c) l s confined untreated none p looks bare reached h =
       receive_goes (newest named s) c (look s.heap (newest named s)) (popped s) h looks.0
-  frame_goes (frame.FreesIn access c) l s confined untreated none p looks bare reached h = absurd confined
+  frame_goes (frame.FreesIn access c) l s confined untreated none p looks bare reached h =
+      free_in_goes access (newest named s) c (look s.heap (newest named s)) (popped s) refl reached looks.1 h looks.0
   frame_goes (frame.Declares x) l s confined untreated none p looks bare reached h = stays (owned (declared x) (put x (newest named s) (popped s))) h looks.0
   frame_goes (frame.DeclaresRecord x record_type) l s confined untreated none p looks bare reached h = absurd confined
   frame_goes (frame.Treats v treatment tasks) l s confined untreated none p looks bare reached h = absurd untreated
@@ -540,10 +633,10 @@ module _ (types : List TypeDefinition) (bodies : List BodyForm) (w : View) (reac
   frame_goes frame.Confines l s confined untreated none p looks bare reached h = absurd confined
   frame_goes (frame.Resumes mode) l s confined untreated none p looks bare reached h = absurd confined
   frame_goes frame.Writes l s confined untreated none p looks bare reached h = line_goes (reads_integer (newest named s)) (popped s) h looks.0
-  frame_goes (frame.Ends v) l s confined untreated none p looks bare reached h = absurd confined
-  frame_goes (frame.GivesBack v cause pool) l s confined untreated none p looks bare reached h = absurd confined
-  frame_goes (frame.Clears x) l s confined untreated none p looks bare reached h = absurd confined
-  frame_goes (frame.ClearsIn o c) l s confined untreated none p looks bare reached h = absurd confined
+  frame_goes (frame.Ends v) l s confined untreated none p looks bare reached h = end_goes v (look s.heap v) s confined h looks.0
+  frame_goes (frame.GivesBack v cause pool) l s confined untreated none p looks bare reached h = back_goes v cause pool (lent s.heap v) s confined h looks.0
+  frame_goes (frame.Clears x) l s confined untreated none p looks bare reached h = put_goes x Null s h looks.0
+  frame_goes (frame.ClearsIn o c) l s confined untreated none p looks bare reached h = store_goes o c Null (look s.heap o) s h looks.0
 
   -- A jump lands in confined statements, if it lands in any, and comes out of no operation.
   abbrev LandsConfined : Landing Value → Type 0
@@ -627,7 +720,7 @@ module _ (types : List TypeDefinition) (bodies : List BodyForm) (w : View) (reac
       let c = unless_it_ends (is_return f) (FrameIsConfined w reaches f × BodyIsConfined w reaches k) within.0 h in
       jump_goes Returning f (record s { mode = Returning; control = k }) c.0 c.1 looks
 
-  -- The next step of a confined body leaves it so, and no object ceases to exist.
+  -- The next step of a confined body leaves it so, and its object stays.
   pub goes_on :
       (s : State) → IsWatched w (places s) s.heap → LooksElsewhere w s → AssignsBare types s → IsWithin s.control s.masters → IsConfined w reaches s
       → AllGoOn w reaches s.heap (next types bodies s)

@@ -1,7 +1,8 @@
 -- What a step of a confined body looks at and writes: nothing of the object that lies beside the record.
 
 use Rattle.std.proofs.Common.{◌≡◌, ◌⊎◌, ℕ, ◌+◌, Bool, true, false, List, [], ◌∷◌, refl, ap, ◌∙◌, inl, inr}
-use Rattle.std.specs.Prelude.{◌==◌, ◌&&◌}
+use Rattle.std.specs.List.{slice_get}
+use Rattle.std.specs.Prelude.{◌==◌, ◌&&◌, Option, Some, None}
 use Rattle.ada_program.specs.Form.{ExpressionForm, reads, is_null, ItemForm, item_of_path, item_of_record, RightForm, value_of, assigns, assigns_record, frees, gets, StmtsForm, no_stmts, a_stmt}
 use Rattle.ada_program.specs.declared.program.TypeDefinition.{TypeDefinition}
 use Rattle.ada_program.specs.Typed.{width_of}
@@ -13,14 +14,15 @@ use Rattle.ada_meaning.specs.Frame.{Frame, is_return}
 use Rattle.ada_meaning.specs.Frame as frame
 use Rattle.ada_meaning.specs.State.{Item, Master}
 use Rattle.ada_meaning.specs.Step.{places, operands, held, newest}
-use Rattle.ada_meaning.specs.Named.{Object, State, named, whole, inside}
+use Rattle.ada_meaning.specs.Heap.{Cell, Found, on_null, on_gone, on_other, finds}
+use Rattle.ada_meaning.specs.Named.{Object, State, named, look, whole, inside}
 use Rattle.ada_tracked.specs.Frames.{View}
 use Rattle.ada_tracked.specs.Law.{NewestHousesNone, InnermostHousesNone, TakesNone}
-use Rattle.ada_tracked.specs.Looking.{StartsElsewhere, HolderIsElsewhere, LeadsElsewhere, ExpressionLooksElsewhere, ItemsLookElsewhere, RightLooksElsewhere, StatementsLookElsewhere, NextLooksElsewhere, FirstLooksElsewhere, LooksElsewhere}
+use Rattle.ada_tracked.specs.Looking.{StartsElsewhere, HolderIsElsewhere, FreedIsElsewhere, LeadsElsewhere, ExpressionLooksElsewhere, ItemsLookElsewhere, RightLooksElsewhere, StatementsLookElsewhere, NextLooksElsewhere, FirstLooksElsewhere, LooksElsewhere}
 use Rattle.ada_tracked.specs.Copying.{AreNoneOf, FrameCopiesNone, FirstCopiesNone, CopiesNone}
 use Rattle.ada_tracked.specs.Seen.{leads_to, IsOther, awaits_holder, FormalIsFirst, IsWatched}
 use Rattle.ada_tracked.specs.Staying.{UnlessItEnds}
-use Rattle.ada_untouched.specs.Untouched.{hides, AreShown, IsInSight, IsOpen, LeadsOn, LeadsToHolder, NewestHousesNoGhost, InnermostHousesNoGhost, ExpressionIsOpen, ItemsAreOpen, RightIsOpen, StatementsAreOpen, FrameIsOpen, JumpIsOpen, FirstIsOpen, Untouched}
+use Rattle.ada_untouched.specs.Untouched.{hides, FreedIsOpen, MayBeSought, MayBeFreed, AreShown, IsInSight, IsOpen, LeadsOn, LeadsToHolder, NewestHousesNoGhost, InnermostHousesNoGhost, ExpressionIsOpen, ItemsAreOpen, RightIsOpen, StatementsAreOpen, FrameIsOpen, JumpIsOpen, FirstIsOpen, Untouched}
 use Rattle.ada_untouched.specs.Unwritten.{FrameWritesShown, FirstWritesShown, Unwritten}
 use Rattle.ada_beside.specs.Confined.{IsConfinedFrom, IsCopiedFrom, ExpressionIsConfined, ItemsAreConfined, RightIsConfined, StatementsAreConfined, StoresReached, FrameIsConfined, BodyIsConfined, OperandsAreConfined, IsConfined}
 use Rattle.ada_beside.specs.Law.{LieBeside, hidden_beside, no_ghosts, TreatsNone, IsWithin}
@@ -113,6 +115,24 @@ module _ (types : List TypeDefinition) (w : View) (reaches beside : ℕ → Bool
         let starts = holder_starts w.object s.heap x (c ∷ d ∷ cs) v elsewhere in
         (in_sight (whole v), shown (whole v) (inside v c) (start_reached w reaches (places s) x c (d ∷ cs) formal from starts))
 
+    -- A Free looks at no hidden component as it begins (13.11.2).
+    freed_open :
+        (x : ℕ) (cs : List ℕ) → IsConfinedFrom w.tracks.first reaches x cs → FreedIsElsewhere w.object s.heap x cs (held named s x)
+        → FreedIsOpen (hidden_beside w beside) no_ghosts s cs (held named s x)
+    freed_open x [] from elsewhere = in_sight (held named s x)
+    freed_open x (c ∷ cs) from elsewhere = holder_open x (c ∷ cs) from elsewhere
+
+    -- What a component holds may be looked for.
+    may_be_sought : (found : Option Value) → MayBeSought no_ghosts found
+    may_be_sought None = tt
+    may_be_sought (Some v) = in_sight v
+
+    may_be_freed : (c : ℕ) (found : Found (Cell Value)) → MayBeFreed no_ghosts c found
+    may_be_freed c on_null = tt
+    may_be_freed c on_gone = tt
+    may_be_freed c on_other = tt
+    may_be_freed c (finds cell) = may_be_sought (slice_get cell.values c)
+
     -- An expression reads no hidden component.
     expression_open :
         (e : ExpressionForm) → ExpressionIsConfined w.tracks.first reaches e → ExpressionLooksElsewhere w.object s e
@@ -144,7 +164,7 @@ module _ (types : List TypeDefinition) (w : View) (reaches beside : ℕ → Bool
     statements_open no_stmts confined looks = tt
     statements_open (a_stmt (assigns target right) fs) confined looks = holder_open target.root target.selectors confined.0.0 looks
     statements_open (a_stmt (assigns_record target items) fs) confined looks = record_open target.object.root target.object.selectors confined.0.0 looks
-    statements_open (a_stmt (frees access path) fs) confined looks = absurd confined.0
+    statements_open (a_stmt (frees access path) fs) confined looks = freed_open path.root path.selectors confined.0 looks
     statements_open (a_stmt (gets target) fs) confined looks = holder_open target.root target.selectors confined.0 looks
     statements_open (a_stmt f fs) confined looks = tt
 
@@ -170,30 +190,31 @@ module _ (types : List TypeDefinition) (w : View) (reaches beside : ℕ → Bool
     -- A frame looks at no hidden component.
     frame_open :
         (f : Frame Value) (k : List (Frame Value)) → FrameIsConfined w reaches f → NextLooksElsewhere w.object s f k → FrameCopiesNone types w.object beside s f
-        → TreatsNone f → TakesNone f s.masters → FrameIsOpen types (hidden_beside w beside) no_ghosts s f
-    frame_open (frame.Does fs) k confined looks copies untreated none = statements_open fs confined looks.1
-    frame_open (frame.Leaves mode) k confined looks copies untreated none = innermost_no_ghost s.heap s.masters none
-    frame_open (frame.Evaluates right) k confined looks copies untreated none = right_open right confined looks.1
-    frame_open (frame.Computes e) k confined looks copies untreated none = expression_open e confined looks.1
-    frame_open (frame.Follows cs) k confined looks copies untreated none = followed_open (awaits_holder k) cs (newest named s) looks
-    frame_open (frame.Refers p) k confined looks copies untreated none = absurd confined
-    frame_open (frame.RefersIn place t) k confined looks copies untreated none = absurd confined
-    frame_open (frame.Opens path) k confined looks copies untreated none = absurd confined
-    frame_open (frame.OpensIn c) k confined looks copies untreated none = absurd confined
-    frame_open (frame.Fills items) k confined looks copies untreated none = items_open items confined looks.1
-    frame_open (frame.Copies c t) k confined looks copies untreated none = copied_open (newest named s) c (width_of types t) copies
-    frame_open (frame.Targets c right) k confined looks copies untreated none = in_sight (newest named s)
-    frame_open (frame.StoresIn v c) k confined looks copies untreated none = in_sight v
-    frame_open (frame.TargetsRecord c t items) k confined looks copies untreated none = in_sight (newest named s)
-    frame_open (frame.StoresRecord v c count) k confined looks copies untreated none = in_sight v
-    frame_open (frame.Receives c) k confined looks copies untreated none = in_sight (newest named s)
-    frame_open (frame.FreesIn access c) k confined looks copies untreated none = absurd confined
-    frame_open (frame.Treats v treatment tasks) k confined looks copies untreated none = absurd untreated
-    frame_open (frame.Awaits v by done of part tasks) k confined looks copies untreated none = absurd confined
-    frame_open (frame.Ends v) k confined looks copies untreated none = absurd confined
-    frame_open (frame.GivesBack v cause pool) k confined looks copies untreated none = absurd confined
-    frame_open (frame.ClearsIn v c) k confined looks copies untreated none = absurd confined
-    frame_open f k confined looks copies untreated none = tt
+        → OperandsAreConfined w reaches Running (f ∷ k) (operands s) → TreatsNone f → TakesNone f s.masters → FrameIsOpen types (hidden_beside w beside) no_ghosts s f
+    frame_open (frame.Does fs) k confined looks copies reached untreated none = statements_open fs confined looks.1
+    frame_open (frame.Leaves mode) k confined looks copies reached untreated none = innermost_no_ghost s.heap s.masters none
+    frame_open (frame.Evaluates right) k confined looks copies reached untreated none = right_open right confined looks.1
+    frame_open (frame.Computes e) k confined looks copies reached untreated none = expression_open e confined looks.1
+    frame_open (frame.Follows cs) k confined looks copies reached untreated none = followed_open (awaits_holder k) cs (newest named s) looks
+    frame_open (frame.Refers p) k confined looks copies reached untreated none = absurd confined
+    frame_open (frame.RefersIn place t) k confined looks copies reached untreated none = absurd confined
+    frame_open (frame.Opens path) k confined looks copies reached untreated none = absurd confined
+    frame_open (frame.OpensIn c) k confined looks copies reached untreated none = absurd confined
+    frame_open (frame.Fills items) k confined looks copies reached untreated none = items_open items confined looks.1
+    frame_open (frame.Copies c t) k confined looks copies reached untreated none = copied_open (newest named s) c (width_of types t) copies
+    frame_open (frame.Targets c right) k confined looks copies reached untreated none = in_sight (newest named s)
+    frame_open (frame.StoresIn v c) k confined looks copies reached untreated none = in_sight v
+    frame_open (frame.TargetsRecord c t items) k confined looks copies reached untreated none = in_sight (newest named s)
+    frame_open (frame.StoresRecord v c count) k confined looks copies reached untreated none = in_sight v
+    frame_open (frame.Receives c) k confined looks copies reached untreated none = in_sight (newest named s)
+    frame_open (frame.FreesIn access c) k confined looks copies reached untreated none =
+        ((in_sight (newest named s), shown (newest named s) c reached), may_be_freed c (look s.heap (newest named s)))
+    frame_open (frame.Treats v treatment tasks) k confined looks copies reached untreated none = absurd untreated
+    frame_open (frame.Awaits v by done of part tasks) k confined looks copies reached untreated none = absurd confined
+    frame_open (frame.Ends v) k confined looks copies reached untreated none = in_sight v
+    frame_open (frame.GivesBack v cause pool) k confined looks copies reached untreated none = in_sight v
+    frame_open (frame.ClearsIn v c) k confined looks copies reached untreated none = in_sight v
+    frame_open f k confined looks copies reached untreated none = tt
 
     -- A jump looks at no object.
     jump_open : (f : Frame Value) → JumpIsOpen (hidden_beside w beside) no_ghosts s f
@@ -203,16 +224,16 @@ module _ (types : List TypeDefinition) (w : View) (reaches beside : ℕ → Bool
     -- The first of what is left to do looks at no hidden component, in any mode.
     first_open :
         (m : Mode) (k : List (Frame Value)) → BodyIsConfined w reaches k → FirstLooksElsewhere w.object s m k → FirstCopiesNone types w.object beside s m k
-        → IsWithin k s.masters → FirstIsOpen types (hidden_beside w beside) no_ghosts s m k
-    first_open Running [] confined looks copies within = tt
-    first_open Running (f ∷ k) confined looks copies within =
-        frame_open f k (unless_it_ends (is_return f) (FrameIsConfined w reaches f × BodyIsConfined w reaches k) within.0 confined).0 looks copies within.1 within.2
-    first_open (Raising e) [] confined looks copies within = tt
-    first_open (Raising e) (f ∷ k) confined looks copies within = jump_open f
-    first_open Exiting [] confined looks copies within = tt
-    first_open Exiting (f ∷ k) confined looks copies within = jump_open f
-    first_open Returning [] confined looks copies within = tt
-    first_open Returning (f ∷ k) confined looks copies within = jump_open f
+        → OperandsAreConfined w reaches m k (operands s) → IsWithin k s.masters → FirstIsOpen types (hidden_beside w beside) no_ghosts s m k
+    first_open Running [] confined looks copies reached within = tt
+    first_open Running (f ∷ k) confined looks copies reached within =
+        frame_open f k (unless_it_ends (is_return f) (FrameIsConfined w reaches f × BodyIsConfined w reaches k) within.0 confined).0 looks copies reached within.1 within.2
+    first_open (Raising e) [] confined looks copies reached within = tt
+    first_open (Raising e) (f ∷ k) confined looks copies reached within = jump_open f
+    first_open Exiting [] confined looks copies reached within = tt
+    first_open Exiting (f ∷ k) confined looks copies reached within = jump_open f
+    first_open Returning [] confined looks copies reached within = tt
+    first_open Returning (f ∷ k) confined looks copies reached within = jump_open f
 
     -- A frame writes no hidden component.
     frame_shown :
@@ -221,7 +242,7 @@ module _ (types : List TypeDefinition) (w : View) (reaches beside : ℕ → Bool
     frame_shown (frame.StoresIn v c) k confined copies reached = shown v c confined
     frame_shown (frame.StoresRecord v c count) k confined copies reached = record_within v c count copies
     frame_shown (frame.Receives c) k confined copies reached = shown (newest named s) c reached
-    frame_shown (frame.ClearsIn v c) k confined copies reached = absurd confined
+    frame_shown (frame.ClearsIn v c) k confined copies reached = shown v c confined
     frame_shown f k confined copies reached = tt
 
     -- The first of what is left to do writes no hidden component, in any mode.
@@ -242,7 +263,7 @@ module _ (types : List TypeDefinition) (w : View) (reaches beside : ℕ → Bool
   pub untouched :
       (s : State) → IsWatched w (places s) s.heap → LooksElsewhere w s → CopiesNone types w.object beside s → IsWithin s.control s.masters
       → IsConfined w reaches s → Untouched types (hidden_beside w beside) no_ghosts s
-  untouched s p looks copies within confined = first_open s p.formal s.mode s.control confined.control looks copies within
+  untouched s p looks copies within confined = first_open s p.formal s.mode s.control confined.control looks copies confined.operands within
 
   -- The next step of a confined body writes no hidden component.
   pub unwritten :

@@ -1,6 +1,6 @@
--- Of which bodies the law speaks: they free nothing, call nothing, neither declare nor pass records as wholes, and copy them only as items of new objects or of
--- records that they assign; and each of their paths from the formal parameter begins with a component of the record that this is, or is that record, where it
--- lies around what is copied or assigned, or is copied itself. Their variables have numbers below `first`, and 0 is the formal parameter.
+-- Of which bodies the law speaks: they call nothing, neither declare nor pass records as wholes, and copy them only as items of new objects or of records that
+-- they assign; and each of their paths from the formal parameter begins with a component of the record that this is, or is that record, where it lies around what
+-- is copied or assigned, or is copied itself. Their variables have numbers below `first`, and 0 is the formal parameter.
 
 use Rattle.std.specs.Prelude.{◌≡◌, ℕ, zero, suc, ◌+◌, ◌<◌, Bool, true, List, [], ◌∷◌, Option, Some, None, ◌⊎◌}
 use Rattle.ada_program.specs.Form.{PathForm, ExpressionForm, integer, boolean, reads, is_null, applied_to, chained, LinksForm, no_more_links, a_link, ItemForm, null_item, item_of_path, item_of_value, item_of_record, RightForm, nothing, value_of, allocates, allocates_default, computes, DeclarationForm, creates_pool, collects, declares, declares_record, StmtForm, skips, assigns, assigns_record, frees, gets, writes, writes_text, chooses, repeats, counts, exits, calls, returns, raises, encloses, StmtsForm, no_stmts, a_stmt, BranchesForm, otherwise, a_branch, HandlersForm, no_handlers, a_handler}
@@ -87,12 +87,12 @@ module _ (first : ℕ) (reaches : ℕ → Bool) where
   DeclarationsAreConfined (d ∷ ds) = DeclarationIsConfined d × DeclarationsAreConfined ds
 
   abbrev mutual
-    -- A statement that frees nothing and calls nothing.
+    -- A statement that calls nothing.
     pub StatementIsConfined : StmtForm → Type 0
     StatementIsConfined skips = Unit {0}
     StatementIsConfined (assigns target right) = PathIsConfined target × RightIsConfined right
     StatementIsConfined (assigns_record target items) = IsCopiedFrom target.object.root target.object.selectors × ItemsAreConfined items
-    StatementIsConfined (frees access path) = ⊥
+    StatementIsConfined (frees access path) = PathIsConfined path
     StatementIsConfined (gets target) = PathIsConfined target
     StatementIsConfined (writes e) = ExpressionIsConfined e
     StatementIsConfined (writes_text text) = Unit {0}
@@ -129,7 +129,7 @@ abbrev pub StoresReached : View → (reaches : ℕ → Bool) → Value → (comp
 StoresReached w reaches v c = IsOther w.object v ⊎ ((v ≡ Names w.object) × IsReached w reaches c)
 
 -- What is left to do is of such forms, and neither the end of a call nor anything of an operation that has begun on a controlled part (7.6). Where controlled
--- parts are yet to be treated, they are those of another object. No object ceases to exist.
+-- parts are yet to be treated, they are those of another object; and so is what ceases to exist (13.11.2).
 abbrev pub FrameIsConfined : View → (reaches : ℕ → Bool) → Frame Value → Type 0
 FrameIsConfined w reaches (frame.Elaborates ds fs hs) =
     DeclarationsAreConfined w.tracks.first reaches ds × StatementsAreConfined w.tracks.first reaches fs × HandlersAreConfined w.tracks.first reaches hs
@@ -166,7 +166,7 @@ FrameIsConfined w reaches (frame.TargetsRecord c t items) = ItemsAreConfined w.t
 FrameIsConfined w reaches (frame.StoresRecord v c count) = Unit {0}
 FrameIsConfined w reaches (frame.Assigns t) = ⊥
 FrameIsConfined w reaches (frame.Receives c) = Unit {0}
-FrameIsConfined w reaches (frame.FreesIn access c) = ⊥
+FrameIsConfined w reaches (frame.FreesIn access c) = Unit {0}
 FrameIsConfined w reaches (frame.Declares x) = IsVariable w.tracks.first x
 FrameIsConfined w reaches (frame.DeclaresRecord x t) = ⊥
 FrameIsConfined w reaches (frame.Treats v treatment tasks) = IsOther w.object v
@@ -174,21 +174,22 @@ FrameIsConfined w reaches (frame.Awaits v by done of part tasks) = ⊥
 FrameIsConfined w reaches frame.Confines = ⊥
 FrameIsConfined w reaches (frame.Resumes mode) = ⊥
 FrameIsConfined w reaches frame.Writes = Unit {0}
-FrameIsConfined w reaches (frame.Ends v) = ⊥
-FrameIsConfined w reaches (frame.GivesBack v cause pool) = ⊥
-FrameIsConfined w reaches (frame.Clears x) = ⊥
-FrameIsConfined w reaches (frame.ClearsIn v c) = ⊥
+FrameIsConfined w reaches (frame.Ends v) = IsOther w.object v
+FrameIsConfined w reaches (frame.GivesBack v cause pool) = IsOther w.object v
+FrameIsConfined w reaches (frame.Clears x) = IsVariable w.tracks.first x
+FrameIsConfined w reaches (frame.ClearsIn v c) = StoresReached w reaches v c
 
 -- All that is left to do of a body is so, up to the end of its call.
 abbrev pub BodyIsConfined : View → (reaches : ℕ → Bool) → List (Frame Value) → Type 0
 BodyIsConfined w reaches [] = Unit {0}
 BodyIsConfined w reaches (f ∷ k) = UnlessItEnds (is_return f) (FrameIsConfined w reaches f × BodyIsConfined w reaches k)
 
--- Where a component is about to be assigned or read to, and no jump is on its way, the newest operand leads to another object, or that component is one that the
+-- Where a component is about to be assigned or read to, or what it holds is about to be freed, and no jump is on its way, the newest operand leads to another object, or that component is one that the
 -- body may reach.
 abbrev pub OperandsAreConfined : View → (reaches : ℕ → Bool) → Mode → List (Frame Value) → (operands : List Value) → Type 0
 OperandsAreConfined w reaches Running (frame.Targets c right ∷ k) vs = StoresReached w reaches (first_or Null vs) c
 OperandsAreConfined w reaches Running (frame.Receives c ∷ k) vs = StoresReached w reaches (first_or Null vs) c
+OperandsAreConfined w reaches Running (frame.FreesIn access c ∷ k) vs = StoresReached w reaches (first_or Null vs) c
 OperandsAreConfined w reaches m k vs = Unit {0}
 
 -- The body of an operation runs that is so.

@@ -1,4 +1,4 @@
--- The law: the body of an operation touches nothing of the object that lies beside the record which is its formal parameter, and nothing ceases to exist.
+-- The law: the body of an operation touches nothing of the object that lies beside the record which is its formal parameter, and the object stays.
 
 use Rattle.std.specs.Prelude.{◌≡◌, ℕ, ◌+◌, Bool, true, false, ◌==◌, ◌&&◌, List, [], ◌∷◌, Some}
 use Rattle.ada_program.specs.declared.program.TypeDefinition.{TypeDefinition}
@@ -32,10 +32,9 @@ hidden_beside w beside o c = (o.0 == w.object.0) && beside c
 abbrev pub no_ghosts : Id → Bool
 no_ghosts o = false
 
--- Each object that exists does so afterwards.
-abbrev pub NoneCeases : (before after : List Object) → Type 0
-NoneCeases before after =
-    (o : Id) (x : Object) → object_at before o ≡ Some x → x.stage ≡ Existing → (y : Object) × (object_at after o ≡ Some y) × (y.stage ≡ Existing)
+-- The object of a name exists afterwards, if it does.
+abbrev pub Remains : Id → (before after : List Object) → Type 0
+Remains o before after = (x : Object) → object_at before o ≡ Some x → x.stage ≡ Existing → (y : Object) × (object_at after o ≡ Some y) × (y.stage ≡ Existing)
 
 -- A frame does nothing to controlled parts (7.6): where one does, its step is none of the body itself.
 abbrev pub TreatsNone : Frame Value → Type 0
@@ -47,10 +46,10 @@ abbrev pub IsWithin : List (Frame Value) → List Master → Type 0
 IsWithin [] ms = Unit {0}
 IsWithin (f ∷ k) ms = (is_return f ≡ false) × TreatsNone f × TakesNone f ms
 
--- Behind a step the body is confined still, and none has ceased to exist.
+-- Behind a step the body is confined still, and the object of its record has not ceased to exist.
 pub record GoesOn (w : View) (reaches : ℕ → Bool) (before : List Object) (after : State) : Type 0 where
   pub confined : IsConfined w reaches after
-  pub none_ceases : NoneCeases before after.heap
+  pub remains : Remains w.object before after.heap
 
 -- Whatever comes next, and whatever is answered.
 abbrev pub AllGoOn : View → (reaches : ℕ → Bool) → (before : List Object) → Next → Type 0

@@ -3,11 +3,11 @@
 ghost use Rattle.ada_beside.specs.Example.{PremisesAreMet};
 ghost use Rattle.ada_beside.specs.Law.{BodiesStayWithinTheirRecord};
 
-/// While the body of an operation runs whose paths from its formal parameter begin with components of that record, and which frees
-/// nothing, a step that looks at the object of that record by the formal parameter alone, though other values may name it, copies
-/// and stores nothing with a record that lies beside the record, and assigns none with controlled parts, neither looks at what lies
-/// there nor writes it; each object that exists does so behind it, and what is left of the body is such again, also where the
-/// controlled parts of a new object are treated first (7.6). Of the steps of that treatment it does not speak.
+/// While the body of an operation runs whose paths from its formal parameter begin with components of that record, a step that looks
+/// at the object of that record by the formal parameter alone, though other values may name it, copies and stores nothing with a
+/// record that lies beside the record, and assigns none with controlled parts, neither looks at what lies there nor writes it; the
+/// object exists behind it, if it does before, and what is left of the body is such again, also where the controlled parts of another
+/// object are treated first, which is new or freed (7.6, 13.11.2). Of the steps of that treatment it does not speak.
 pub fn bodies_stay_within_their_record()
     ensures { BodiesStayWithinTheirRecord }
 {}

@@ -1,7 +1,7 @@
 //! The law of what lies beside a record: while the body of an operation (7.6) runs that looks at an object by its formal parameter
-//! alone, and frees nothing, no component of the object is looked at or written that is none of that record, and no object ceases
-//! to exist. Other values may name the object: they are followed by no step of which the law speaks. Nothing here runs: each
-//! function of [`laws`] is a theorem on the definitions of meaning, and its contract is the statement.
+//! alone, no component of the object is looked at or written that is none of that record, and the object stays. Other values may name
+//! the object: they are followed by no step of which the law speaks. Nothing here runs: each function of [`laws`] is a theorem on the
+//! definitions of meaning, and its contract is the statement.
 //!
 //! What a crate above takes from here: `IsConfined` of `specs::Confined`, and `stays_within` of `proofs::Law`.
 #![tactic(auto)]

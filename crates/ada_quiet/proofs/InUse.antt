@@ -11,7 +11,7 @@ use Rattle.ada_program.specs.WellFormed.{finalization_in}
 use Rattle.ada_quiet.specs.Quiet.{is_plain_body, is_quiet_body, is_plain_procedure, is_quiet_procedure, is_plain_operation, is_quiet_operation, has_quiet_operations, has_access, operation_body, adjust_body, adjusts_access, operations_are_quiet}
 use Rattle.ada_quiet.specs.Frugal.{is_frugal_operation}
 use Rattle.ada_quiet.specs.Simple.{is_simple_operation}
-use Rattle.ada_quiet.specs.InUse.{adjusts_alone, adjusts_nothing, uses_called_adjust, may_adjust_frugally, may_be_frugal, may_track, uses_initialize, uses_adjust, uses_finalize, uses_operations, operations_are_idle, operations_may_be_called, operations_are_in_use}
+use Rattle.ada_quiet.specs.InUse.{adjusts_nothing, uses_called_adjust, may_adjust_frugally, may_be_frugal, may_track, uses_initialize, uses_adjust, uses_finalize, uses_operations, operations_are_idle, operations_may_be_called, operations_are_in_use}
 
 -- Of two tests that both hold the first one holds, and so does the second one.
 pub first_of_both : (a b : Bool) → (a && b) ≡ true → a ≡ true
@@ -67,7 +67,7 @@ pub uses_quiet_adjust : (p : ProgramForm) (owns : Bool) (o : Option ProcedureNo)
     uses_adjust p owns o ≡ true
 uses_quiet_adjust p owns o h none =
     either_second (adjusts_nothing p && is_frugal_operation p o) (uses_called_adjust p owns o)
-    (other_chosen (owns && is_some (operation_body p o)) (may_track p && is_simple_operation p (adjusts_alone p) o)
+    (other_chosen (owns && is_some (operation_body p o)) (may_track p && is_simple_operation p true o)
     (is_quiet_operation p o || (may_adjust_frugally p && is_frugal_operation p o)) none
     (either_first (is_quiet_operation p o) (may_adjust_frugally p && is_frugal_operation p o) h))
 

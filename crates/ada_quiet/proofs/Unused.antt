@@ -15,7 +15,7 @@ use Rattle.ada_program.specs.WellFormed.{finalization_in, finalization_of}
 use Rattle.ada_quiet.specs.First.{initializes_in_use, adjusts_in_use, finalizes_in_use, IsUnused, BeginsUnused, HasUnused, stands_before, IsFirst, first_of, start_unless, unused_in}
 use Rattle.ada_quiet.specs.Frugal.{is_frugal_operation}
 use Rattle.ada_quiet.specs.Simple.{is_simple_procedure}
-use Rattle.ada_quiet.specs.InUse.{adjusts_alone, adjusts_nothing, may_adjust_frugally, may_be_frugal, may_track, uses_initialize, uses_adjust, uses_finalize, uses_operations, operations_are_idle, operations_may_be_called, operations_are_in_use}
+use Rattle.ada_quiet.specs.InUse.{adjusts_nothing, may_adjust_frugally, may_be_frugal, may_track, uses_initialize, uses_adjust, uses_finalize, uses_operations, operations_are_idle, operations_may_be_called, operations_are_in_use}
 use Rattle.ada_quiet.specs.Quiet.{is_quiet_body, is_plain_procedure, is_quiet_procedure, is_quiet_operation, has_quiet_operations, has_access, operation_body, adjust_body, operations_are_quiet}
 use Rattle.ada_quiet.proofs.Firsts.{IsOrder, either_first, same_first, AnyBelow, any_none, any_more}
 
@@ -105,7 +105,7 @@ abbrev adjusted_procedure : ProgramForm → (owns : Bool) → (procedure : Proce
 adjusted_procedure p owns procedure o =
     (adjusts_nothing p && is_frugal_operation p (Some procedure))
     || (if owns && is_some o
-    then may_track p && is_simple_procedure p.types (adjusts_alone p) o
+    then may_track p && is_simple_procedure p.types true o
     else is_quiet_procedure p.types o || (may_adjust_frugally p && is_frugal_operation p (Some procedure)))
 
 adjusted_body : (p : ProgramForm) (owns : Bool) (procedure : ProcedureNo) (b : BodyForm)
@@ -140,12 +140,12 @@ abbrev UnusedIn : ProgramForm → (owns : Bool) → Option Finalization → Spot
 UnusedIn p owns o spot = (f : Finalization) × (o ≡ Some f) × UnusedOf p owns f spot
 
 type_first : (p : ProgramForm) (owns : Bool) (o : Option Finalization) →
-    IsFirst (UnusedIn p owns o) (unused_in p (may_be_frugal p) (adjusts_nothing p) (may_adjust_frugally p) (may_track p) (adjusts_alone p) owns o)
+    IsFirst (UnusedIn p owns o) (unused_in p (may_be_frugal p) (adjusts_nothing p) (may_adjust_frugally p) (may_track p) owns o)
 type_first p owns None = λ spot h. absurd (cc h.1)
 type_first p owns (Some f) =
     same_first stands_before (UnusedOf p owns f) (UnusedIn p owns (Some f)) (λ s h. (f, refl, h))
     (λ s h. subst (λ (g : Finalization). UnusedOf p owns g s) (sym (some_same h.1)) h.2)
-    (unused_in p (may_be_frugal p) (adjusts_nothing p) (may_adjust_frugally p) (may_track p) (adjusts_alone p) owns (Some f))
+    (unused_in p (may_be_frugal p) (adjusts_nothing p) (may_adjust_frugally p) (may_track p) owns (Some f))
     (either_first stands_before text_order initialize (λ s. adjust s ⊎ finalize s)
     (start_unless begins (operation_body p f.operations.initialize))
     (first_of (start_unless adjusts (operation_body p f.operations.adjust)) (start_unless ends (operation_body p f.operations.finalize)))
@@ -186,7 +186,7 @@ pub below_none : (p : ProgramForm) → IsFirst (Below p 0) None
 below_none p = any_none stands_before (UnusedAt p)
 
 pub below_more : (p : ProgramForm) (count : ℕ) (a b : Option Spot) → IsFirst (Below p count) a →
-    b ≡ unused_in p (may_be_frugal p) (adjusts_nothing p) (may_adjust_frugally p) (may_track p) (adjusts_alone p) (has_access (slice_get p.types count))
+    b ≡ unused_in p (may_be_frugal p) (adjusts_nothing p) (may_adjust_frugally p) (may_track p) (has_access (slice_get p.types count))
     (finalization_of p.types count) →
     IsFirst (Below p (count + 1)) (first_of a b)
 below_more p count a b f is =

@@ -1,9 +1,8 @@
 -- The first body in the text that overrides an operation of a controlled type and is not in use, in a program whose operations are not idle: Initialize is
 -- neither plain nor frugal, where it may be; Adjust is neither quiet nor, where none is called or it may be, frugal; or, of a type with a component of an
--- access type, it is not simple, or may not track, or frees objects where a record has two controlled parts; or Finalize is neither quiet nor, where it may
--- be, frugal.
+-- access type, it is not simple, or may not track; or Finalize is neither quiet nor, where it may be, frugal.
 
-use Rattle.std.specs.Prelude.{◌≡◌, ◌⊎◌, ℕ, Bool, false, ◌&&◌, ◌||◌, ◌==◌, nat_lt, if◌then◌else◌, Option, Some, None, is_some}
+use Rattle.std.specs.Prelude.{◌≡◌, ◌⊎◌, ℕ, Bool, true, false, ◌&&◌, ◌||◌, ◌==◌, nat_lt, if◌then◌else◌, Option, Some, None, is_some}
 use Rattle.std.specs.List.{slice_get}
 use Rattle.std.specs.Option.{option_map}
 use Rattle.ada_text.specs.declared.spot.Spot.{Spot}
@@ -14,7 +13,7 @@ use Rattle.ada_program.specs.WellFormed.{finalization_of}
 use Rattle.ada_quiet.specs.Quiet.{is_plain_body, is_quiet_body, is_plain_operation, is_quiet_operation, has_access, operation_body}
 use Rattle.ada_quiet.specs.Frugal.{is_frugal_operation}
 use Rattle.ada_quiet.specs.Simple.{is_simple_body, is_simple_operation}
-use Rattle.ada_quiet.specs.InUse.{adjusts_alone, adjusts_nothing, may_adjust_frugally, may_be_frugal, may_track, operations_are_idle}
+use Rattle.ada_quiet.specs.InUse.{adjusts_nothing, may_adjust_frugally, may_be_frugal, may_track, operations_are_idle}
 
 -- A procedure overrides Initialize of some type (7.6).
 abbrev pub Initializes : ProgramForm → (procedure : ProcedureNo) → Type 0
@@ -33,13 +32,13 @@ Finalizes p procedure = (t : ℕ) × (f : Finalization) × (finalization_of p.ty
 abbrev pub initializes_in_use : ProgramForm → (procedure : ProcedureNo) → BodyForm → Bool
 initializes_in_use p procedure b = is_plain_body p.types b || (may_be_frugal p && is_frugal_operation p (Some procedure))
 
--- A body adjusts in use: it is frugal, where no Adjust is called; or it is simple, where it may track, if the type declares such a component, and frees
--- objects only where each record has one controlled part at most; and else it is quiet, or frugal, where it may be.
+-- A body adjusts in use: it is frugal, where no Adjust is called; or it is simple, where it may track, if the type declares such a component; and else it is
+-- quiet, or frugal, where it may be.
 abbrev pub adjusts_in_use : ProgramForm → (owns : Bool) → (procedure : ProcedureNo) → BodyForm → Bool
 adjusts_in_use p owns procedure b =
     (adjusts_nothing p && is_frugal_operation p (Some procedure))
     || (if owns
-    then may_track p && is_simple_body p.types (adjusts_alone p) b
+    then may_track p && is_simple_body p.types true b
     else is_quiet_body p.types b || (may_adjust_frugally p && is_frugal_operation p (Some procedure)))
 
 -- A body finalizes in use: it is quiet, or frugal, where it may be.
@@ -47,8 +46,8 @@ abbrev pub finalizes_in_use : ProgramForm → (procedure : ProcedureNo) → Body
 finalizes_in_use p procedure b = is_quiet_body p.types b || (may_be_frugal p && is_frugal_operation p (Some procedure))
 
 -- The body of a procedure overrides an operation and is not in use: it overrides Initialize and is neither plain nor frugal, where it may be, or Adjust and
--- is neither quiet nor, where it may be, frugal, or, of a type with such a component, not simple, or may not track, or frees objects where a record has two
--- controlled parts, or Finalize and is neither quiet nor, where it may be, frugal.
+-- is neither quiet nor, where it may be, frugal, or, of a type with such a component, not simple, or may not track, or Finalize and is neither quiet nor, where
+-- it may be, frugal.
 abbrev pub IsUnused : ProgramForm → (procedure : ProcedureNo) → BodyForm → Type 0
 IsUnused p procedure b = (Initializes p procedure × (initializes_in_use p procedure b ≡ false))
     ⊎ (((owns : Bool) × Adjusts p owns procedure × (adjusts_in_use p owns procedure b ≡ false))
@@ -93,12 +92,12 @@ abbrev pub initializes : ProgramForm → (frugal : Bool) → Option ProcedureNo 
 initializes p frugal initialize = is_plain_operation p initialize || (frugal && is_frugal_operation p initialize)
 
 -- What overrides Adjust of a type, which declares such a component or does not, is frugal, where none is called or one may be; or simple, where it may
--- track or not, and where the copy of a record adjusts one part alone or not; or quiet, or frugal, where it may be or not.
-abbrev pub adjusts : ProgramForm → (nothing freely tracks alone owns : Bool) → Option ProcedureNo → Bool
-adjusts p nothing freely tracks alone owns adjust =
+-- track or not; or quiet, or frugal, where it may be or not.
+abbrev pub adjusts : ProgramForm → (nothing freely tracks owns : Bool) → Option ProcedureNo → Bool
+adjusts p nothing freely tracks owns adjust =
     (nothing && is_frugal_operation p adjust)
     || (if owns && is_some (operation_body p adjust)
-    then tracks && is_simple_operation p alone adjust
+    then tracks && is_simple_operation p true adjust
     else is_quiet_operation p adjust || (freely && is_frugal_operation p adjust))
 
 -- What overrides Finalize is quiet, or frugal, where it may be or not.
@@ -106,11 +105,10 @@ abbrev pub finalizes : ProgramForm → (frugal : Bool) → Option ProcedureNo �
 finalizes p frugal finalize = is_quiet_operation p finalize || (frugal && is_frugal_operation p finalize)
 
 -- The first one of those that override the operations of a type and are not in use, where an Initialize and a Finalize may be frugal or not, no Adjust is
--- called or one may be, an Adjust may be frugal or not, and track or not, the copy of a record adjusts one part alone or not, and the type declares such a
--- component or does not.
-abbrev pub unused_in : ProgramForm → (frugal nothing freely tracks alone owns : Bool) → Option Finalization → Option Spot
-unused_in p frugal nothing freely tracks alone owns None = None
-unused_in p frugal nothing freely tracks alone owns (Some f) =
+-- called or one may be, an Adjust may be frugal or not, and track or not, and the type declares such a component or does not.
+abbrev pub unused_in : ProgramForm → (frugal nothing freely tracks owns : Bool) → Option Finalization → Option Spot
+unused_in p frugal nothing freely tracks owns None = None
+unused_in p frugal nothing freely tracks owns (Some f) =
     first_of (start_unless (initializes p frugal f.operations.initialize) (operation_body p f.operations.initialize))
-    (first_of (start_unless (adjusts p nothing freely tracks alone owns f.operations.adjust) (operation_body p f.operations.adjust))
+    (first_of (start_unless (adjusts p nothing freely tracks owns f.operations.adjust) (operation_body p f.operations.adjust))
     (start_unless (finalizes p frugal f.operations.finalize) (operation_body p f.operations.finalize)))

@@ -55,16 +55,6 @@ is_copied_in_order types (object_of record_type) = true
 abbrev pub may_track : ProgramForm → Bool
 may_track p = may_be_frugal p && list_all (is_copied_in_order p.types) p.types
 
--- A record has at most one controlled part, at any depth and itself included: where it is copied, that is the first one that is adjusted, and the last one
--- (7.6).
-abbrev pub has_one_part : Option Finalization → Bool
-has_one_part None = true
-has_one_part (Some f) = f.parts == 1
-
--- So it is with each record of a program: no two parts are adjusted one behind the other, where one is copied.
-abbrev pub adjusts_alone : ProgramForm → Bool
-adjusts_alone p = list_all (λ t. has_one_part (finalization_in (Some t))) p.types
-
 -- Finalize is quiet, or frugal, where it may be.
 abbrev pub uses_finalize : ProgramForm → Option ProcedureNo → Bool
 uses_finalize p finalize = is_quiet_operation p finalize || (may_be_frugal p && is_frugal_operation p finalize)
@@ -95,12 +85,11 @@ abbrev pub may_adjust_frugally : ProgramForm → Bool
 may_adjust_frugally p = may_be_frugal p && tracks_beside_none p
 
 -- Where one may be called, Adjust is simple, where it may track, if a body overrides it of a type that declares a component of an access type directly (3.10,
--- 7.6): behind it that component of a copy holds a value of its own, or null. It frees nothing where a record has two controlled parts: what the one that is
--- adjusted later still shares with the source of the copy stays. Of another type it is quiet, or frugal, where it may be.
+-- 7.6): behind it that component of a copy holds a value of its own, or null. Of another type it is quiet, or frugal, where it may be.
 abbrev pub uses_called_adjust : ProgramForm → (owns : Bool) → Option ProcedureNo → Bool
 uses_called_adjust p owns adjust =
     if owns && is_some (operation_body p adjust)
-    then may_track p && is_simple_operation p (adjusts_alone p) adjust
+    then may_track p && is_simple_operation p true adjust
     else is_quiet_operation p adjust || (may_adjust_frugally p && is_frugal_operation p adjust)
 
 -- So Adjust is in use; and where none is called, a frugal one is, too.

@@ -66,7 +66,7 @@ fn unused_in(
 ) -> Result<Option<Spot>, AllocError>
     requires { frugal.now ≡ spent.frugal_operations (program_form program.now) }
     ensures { IfOk result (λ first. first
-        ≡ rules.unused_in (program_form program.now) may.frugal may.nothing may.freely may.tracks may.alone owns finalization) }
+        ≡ rules.unused_in (program_form program.now) may.frugal may.nothing may.freely may.tracks owns finalization) }
 {
     let Some(finalization) = finalization else {
         return Ok(None);
@@ -113,9 +113,8 @@ fn first_uncallable(alloc: Global, program: &Program) -> Result<Option<Spot>, Al
 /// whose operations are not idle: one that overrides Initialize and is not plain, since it touches storage or calls, nor frugal in a
 /// program in which operations may be; one that overrides Adjust, is not frugal in a program in which none is called, and is not quiet,
 /// since it is not plain or lets an exception out, or, of a type with a component of an access type, declared in it directly, is not
-/// simple, stands in a program in which an Adjust may not track, or frees objects in one in which a record has two controlled parts; or one
-/// that overrides Finalize and is neither quiet nor, where operations may be frugal, frugal. Linear in the types, their components, and all
-/// bodies.
+/// simple, or stands in a program in which an Adjust may not track; or one that overrides Finalize and is neither quiet nor, where
+/// operations may be frugal, frugal. Linear in the types, their components, and all bodies.
 ///
 /// # Errors
 /// `AllocError` where memory was refused.

@@ -21,8 +21,8 @@
 //! In other programs `first_unused` finds the first body in the text that overrides an operation and is not in use: Initialize is to be
 //! plain or, where it may be, frugal, Finalize is to be quiet or, where it may be, frugal, and so is Adjust; but of a type with a
 //! component of an access type, declared in it directly, Adjust is to be simple, where it may track that component: a quiet one would leave
-//! it as it is. A simple body allocates objects without controlled parts, and frees some where it may, moves and follows, calls nothing,
-//! assigns no record with controlled parts, and declares variables alone, none of them a record.
+//! it as it is. A simple body allocates objects without controlled parts, and frees some, moves and follows, calls nothing, assigns no
+//! record with controlled parts, and declares variables alone, none of them a record.
 //!
 //! An Initialize and a Finalize may be frugal in a program in which operations stand apart, as below (`may_be_frugal`), whatever components
 //! the objects of its collections have, and in whatever order these are created. While a master is left, its collections go one after the
@@ -48,16 +48,16 @@
 //! declared ones, and a record whose type overrides Adjust is controlled itself, as in each program that is resolved (`may_track`). Its
 //! variables, and components of any object, may name the object that is adjusted: by rule S8, which `ada_operations` asks, nothing that
 //! runs there follows such a value or frees it. A record may have any number of controlled parts: where it is copied, they are adjusted one
-//! behind the other (7.6). But where some record of the program has two, an Adjust that tracks frees nothing. For until a part of the copy
-//! is adjusted, its components name the same objects as those of the source: while another part is adjusted before it, these are to stay,
-//! and do so where nothing is freed. Where each record has at most one controlled part, none is left to be adjusted later.
+//! behind the other (7.6). Until a part of the copy is adjusted, its components name the same objects as those of the source: while another
+//! part is adjusted before it, these are to stay, whatever that frees. They do, since no body that runs there comes to the source, by the
+//! same rule S8: its object has such a part, too.
 //!
 //! A program with another body is refused (F23), since no theorem covers it so far: an Initialize, an Adjust or a Finalize that touches
 //! storage in another program, gives values to the components of objects with controlled parts that it allocates, declares other records
 //! with an initial value where an Adjust tracks, or assigns other records with such parts, an Adjust that tracks and frees objects with
 //! controlled parts, one that touches storage and does not track where a record type has both kinds of parts, operations that call
-//! procedures that are not frugal, and an Adjust that tracks and calls, declares record objects, assigns records with controlled parts, or frees objects where a record has
-//! two of these.
+//! procedures that are not frugal, and an Adjust that tracks and calls, declares record objects, or assigns records with controlled
+//! parts.
 #![tactic(auto)]
 
 mod apart;

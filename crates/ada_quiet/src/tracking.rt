@@ -1,6 +1,6 @@
 //! Where an Adjust may track the components of access types of its formal parameter (7.6): a Finalize may be frugal, the elementary components
-//! of each record type stand in the order of its declared components, and a record whose type overrides Adjust is itself adjusted. Where
-//! none tracks. And where the copy of a record adjusts one controlled part alone: each record has at most one.
+//! of each record type stand in the order of its declared components, and a record whose type overrides Adjust is itself adjusted. And
+//! where none tracks.
 
 ghost use Rattle.std.specs.Prelude.{◌≡◌, ◌&&◌, ◌||◌, ◌==◌, Some, map};
 ghost use Rattle.std.specs.List.{list_all, list_any};
@@ -119,45 +119,6 @@ pub(crate) fn may_track(program: &Program, frugal: bool) -> bool
     ensures { let p = program_form program.now in result ≡ (frugal && list_all (rules.is_copied_in_order p.types) p.types) }
 {
     frugal && are_copied_in_order(&program.types)
-}
-
-/// Whether a record has at most one controlled part, at any depth and itself included: where it is copied, that is the first one that
-/// is adjusted, and the last one (7.6).
-fn has_one_part(finalization: Option<Finalization>) -> bool
-    ensures { result ≡ rules.has_one_part finalization }
-{
-    match finalization {
-        None => true,
-        Some(finalization) => finalization.parts == 1,
-    }
-}
-
-/// Whether a record of a type has at most one, if it is a record type.
-fn is_adjusted_alone(definition: &TypeDefinition) -> bool
-    ensures { result ≡ rules.has_one_part (fits.finalization_in (Some (type_form definition.now))) }
-{
-    match definition {
-        TypeDefinition::Record {
-            name: _,
-            parts: _,
-            components: _,
-            finalization,
-        } => has_one_part(*finalization),
-        TypeDefinition::Access { .. } | TypeDefinition::Object { .. } => true,
-    }
-}
-
-/// Whether each record of a program has at most one controlled part, so that no two parts are adjusted one behind the other where one
-/// is copied. Linear in the types.
-pub(crate) fn adjusts_alone(program: &Program) -> bool
-    ensures { result ≡ rules.adjusts_alone (program_form program.now) }
-{
-    'types: for definition in &program.types {
-        if !is_adjusted_alone(definition) {
-            return false;
-        }
-    }
-    true
 }
 
 /// Whether a type that declares a component of an access type directly overrides no Adjust (3.10, 7.6).

@@ -12,7 +12,7 @@ use crate::mixed::tracks_beside_none;
 use crate::operations::{
     is_frugal_operation, is_overridden, is_plain_operation, is_quiet_operation, is_simple_operation,
 };
-use crate::tracking::{adjusts_alone, may_track};
+use crate::tracking::may_track;
 use ada_program::{ProcedureNo, Program};
 use std::alloc::{AllocError, Global};
 
@@ -38,8 +38,6 @@ pub(crate) struct Allowed {
     pub(crate) freely: bool,
     /// Whether an Adjust may track.
     pub(crate) tracks: bool,
-    /// Whether the copy of a record adjusts one controlled part alone.
-    pub(crate) alone: bool,
 }
 
 /// What operations may do in this one. Linear in the types, their components, and all bodies.
@@ -51,19 +49,16 @@ pub(crate) fn allowed_in(alloc: Global, program: &Program) -> Result<Allowed, Al
     ensures nothing { IfOk result (λ allowed. allowed.nothing ≡ rules.adjusts_nothing (program_form program.now)) }
     ensures freely { IfOk result (λ allowed. allowed.freely ≡ rules.may_adjust_frugally (program_form program.now)) }
     ensures tracks { IfOk result (λ allowed. allowed.tracks ≡ rules.may_track (program_form program.now)) }
-    ensures alone { IfOk result (λ allowed. allowed.alone ≡ rules.adjusts_alone (program_form program.now)) }
 {
     let frugal = may_be_frugal(alloc, program)?;
     let nothing = adjusts_nothing(alloc, program)?;
     let freely = frugal && tracks_beside_none(alloc, program)?;
     let tracks = may_track(program, frugal);
-    let alone = adjusts_alone(program);
     Ok(Allowed {
         frugal,
         nothing,
         freely,
         tracks,
-        alone,
     })
 }
 
@@ -82,7 +77,7 @@ pub(crate) fn uses_initialize(
 
 /// Whether what overrides Adjust is frugal, where no Adjust is called; else whether it is simple, where it may track, if it is a body, and
 /// its type has a component of an access type, declared in it directly; of another type, whether it is quiet, or frugal, where it may be
-/// so freely. What tracks may free objects where the copy of a record adjusts one controlled part alone, and there only.
+/// so freely.
 ///
 /// # Errors
 /// `AllocError` where memory for the exceptions that it raises was refused.
@@ -96,7 +91,7 @@ pub(crate) fn uses_adjust(
 ) -> Result<bool, AllocError>
     requires { procedures.now ≡ frugal_operations (program_form program.now) }
     ensures { IfOk result (λ answer. answer
-        ≡ first.adjusts (program_form program.now) may.nothing may.freely may.tracks may.alone owns operation) }
+        ≡ first.adjusts (program_form program.now) may.nothing may.freely may.tracks owns operation) }
 {
     if may.nothing && is_frugal_operation(procedures, operation) {
         return Ok(true);
@@ -104,7 +99,7 @@ pub(crate) fn uses_adjust(
     if !(owns && is_overridden(program, operation)) {
         return is_quiet_or_frugal(alloc, program, procedures, may.freely, operation);
     }
-    Ok(may.tracks && is_simple_operation(program, may.alone, operation))
+    Ok(may.tracks && is_simple_operation(program, true, operation))
 }
 
 /// Whether what overrides an operation is quiet, or frugal, where it may be.

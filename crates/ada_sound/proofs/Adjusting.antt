@@ -1,7 +1,7 @@
 -- The body of an Adjust runs that tracks components of its formal parameter (7.6), after a copy of a record: what holds of the state that stands for the real
 -- one, which has a variable for each of them.
 
-use Rattle.std.proofs.Common.{◌≡◌, ◌≢◌, ℕ, ◌==◌, Bool, true, List, [], ◌∷◌, length, drop, ◌⊎◌}
+use Rattle.std.proofs.Common.{◌≡◌, ◌≢◌, ℕ, ◌+◌, ◌<◌, ◌≤◌, ◌==◌, Bool, true, List, [], ◌∷◌, length, drop, ◌⊎◌}
 use Rattle.std.specs.Prelude.{Option, Some}
 use Rattle.std.specs.List.{list_all, list_any, slice_get}
 use Rattle.ada_parts.specs.Part as parts
@@ -25,25 +25,27 @@ use Rattle.ada_meaning.specs.Step as step
 use Rattle.ada_quiet.specs.Apart.{is_tracker}
 use Rattle.ada_judged.specs.Fitting.{TracksComponents}
 use Rattle.ada_judged.specs.Obeying.{BodyIsOrderly}
-use Rattle.ada_quiet.specs.InUse.{may_be_frugal, may_track}
+use Rattle.ada_program.specs.WellFormed.{record_components}
+use Rattle.ada_quiet.specs.InUse.{count_found, may_be_frugal, may_track}
 use Rattle.ada_quiet.specs.Simple.{holds_one_value}
 use Rattle.ada_beside.specs.Confined.{IsConfined}
 use Rattle.ada_beside.specs.Law.{LieBeside}
 use Rattle.ada_finalized.specs.Law.{NothingBegins}
-use Rattle.ada_tracked.specs.Frames.{View, blanked, values_at}
+use Rattle.ada_tracked.specs.Frames.{View, blanked}
 use Rattle.ada_tracked.specs.Seen.{Seen}
 use Rattle.ada_tracked.specs.Staying.{BodyIsSimple}
 use Rattle.ada_typed.proofs.Control as typed
 use Rattle.ada_typed.proofs.Kept.{behind_call}
 use Rattle.ada_sound.proofs.CallsApart.{CallApart}
 use Rattle.ada_sound.proofs.Callers.{AreCalls, Suspension, AreOf, known_in}
-use Rattle.ada_sound.proofs.CopiedOwners.{CopyLeft, NameThere, hiding, owners_left}
+use Rattle.ada_sound.proofs.CopiedOwners.{CopiedFrom, CopyLeft, hiding, owners_left}
 use Rattle.ada_sound.proofs.FrugalControl.{Frugally}
 use Rattle.ada_sound.proofs.Invariant.{AdjustsAside, Control, Ready, Rooms, RunsOn, Standing, body_among}
 use Rattle.ada_sound.proofs.Judged.{known_judged}
 use Rattle.ada_sound.proofs.Operating.{IsCalm, WaitsFor}
 use Rattle.ada_sound.proofs.Allowance.{simple_allowance}
-use Rattle.ada_sound.proofs.Sparing.{Sparing}
+use Rattle.ada_sound.proofs.Sparing.{Sparing, bare_apart, is_around}
+use Rattle.ada_reaching.specs.Reaching.{IsReaching}
 use Rattle.ada_sound.proofs.Touching.{Paused, resting}
 use Rattle.ada_sound.specs.Agreement.{running_procedure}
 
@@ -135,22 +137,51 @@ put_aside owners o s = record s { heap = blanked (hiding owners o) s.heap }
 abbrev pub is_one_of : List ℕ → (component : ℕ) → Bool
 is_one_of owners c = list_any (λ d. d == c) owners
 
--- While those are put aside, the body touches none of them, and no object ceases to exist; or none is put aside.
-abbrev pub LeavesAlone : View → List ℕ → State → Type 0
-LeavesAlone w owners s = (owners ≡ []) ⊎ ((reaches : (ℕ → Bool)) × LieBeside w reaches (is_one_of owners) × IsConfined w reaches s)
+-- This object, and no other.
+abbrev pub is_this : Id → Id → Bool
+is_this q o = q.0 == o.0
 
--- The body of such an Adjust runs, and others are called later for the same copy: the components that these see to are put aside; what they name is there, and
--- stays there.
+-- The body reaches no object of this one's type, or, where no value of its names the object, not this one: so it leaves the object as it is.
+pub record Shunned (program : Program) (q : Id) (behind : Control) (lower : List Master) (s : State) : Type 0 where
+  pub around : ℕ
+  pub unnamed : Id → Bool
+  pub reaching : IsReaching (program_form program) (is_around around) (bare_apart program) (is_this q) unnamed behind lower s
+
+-- What the body reaches of its record lies in the record that was copied: among so many components from one on.
+abbrev pub LieWithin : View → (reaches : ℕ → Bool) → (to count : ℕ) → Type 0
+LieWithin w reaches to count = (d : ℕ) → reaches d ≡ true → (to ≤ w.base + d) × (w.base + d < to + count)
+
+-- The body touches none of the components of the copy that are put aside; and the original, another record, stays as it is: it lies in the object, too, beside the
+-- copy, or in another one, which the body leaves as it is.
+pub record IsAside (program : Program) (w : View) (o : Id) (r to : ℕ) (owners : List ℕ) (vs : List Value) (behind : Control) (lower : List Master) (s : State) : Type 0 where
+  pub reaches : ℕ → Bool
+  pub beside : LieBeside w reaches (is_one_of owners)
+  pub within : LieWithin w reaches to (count_found (record_components (program_form program).types r))
+  pub confined : IsConfined w reaches s
+  pub copied : CopiedFrom (program_form program).types s.heap o r to owners vs
+  pub original : (copied.source ≡ o) ⊎ ((copied.source ≢ o) × Shunned program copied.source behind lower s)
+
+-- So it is, or none is put aside.
+abbrev pub LeavesAlone : Program → View → Id → (r to : ℕ) → List ℕ → List Value → Control → List Master → State → Type 0
+LeavesAlone program w o r to owners vs behind lower s = (owners ≡ []) ⊎ IsAside program w o r to owners vs behind lower s
+
+-- What is left of the adjustment of a copy; and what is put aside for that is left alone.
+abbrev pub LeftAlone :
+    Program → (access r : ℕ) → List Task → View → Id → List ℕ → List Value → Control → List Master → State → Type 0
+LeftAlone program access r tasks w o owners vs behind lower s =
+    (left : CopyLeft (program_form program).types access r tasks) × LeavesAlone program w o r left.first owners vs behind lower s
+
+-- The body of such an Adjust runs, and others are called later for the same copy: the components that these see to are put aside; what they name, the original
+-- names.
 pub record AdjustingCopy (program : Program) (s : State) : Type 0 where
   pub object : Id
   pub owners : List ℕ
   pub adjusting : Adjusting program (put_aside owners object s)
   pub same : adjusting.object ≡ object
-  pub left : CopyLeft (program_form program).types adjusting.access adjusting.record_type adjusting.tasks
   pub owned : owners ≡ owners_left (program_form program).types adjusting.access adjusting.tasks
   pub x : Object
   pub found : object_at s.heap object ≡ Some x
-  pub named : NameThere s.heap (values_at owners x.cell.values)
-  pub leaves_alone : LeavesAlone adjusting.w owners s
+  pub left :
+      LeftAlone program adjusting.access adjusting.record_type adjusting.tasks adjusting.w object owners x.cell.values adjusting.behind adjusting.lower s
   -- so it looks at the object here, too
   pub sparing : Sparing program adjusting.w.object adjusting.access adjusting.behind adjusting.lower s

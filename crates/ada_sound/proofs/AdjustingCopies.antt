@@ -1,16 +1,20 @@
 -- Each step while the body of an Adjust runs that tracks components of its formal parameter (7.6), where other parts of the copy are adjusted later: the components
 -- that these see to are put aside meanwhile. The body touches none of them, so the real state takes the step of the one in which they hold null.
 
-use Rattle.std.proofs.Common.{◌≡◌, ◌≢◌, ℕ, Bool, true, false, List, [], ◌∷◌, Option, Some, refl, sym, ap, ◌∙◌, ◌⊎◌, inl, inr, subst}
+use Rattle.std.proofs.Common.{◌≡◌, ◌≢◌, ◌||◌, ◌==◌, ◌+◌, not, ℕ, Bool, true, false, List, [], ◌∷◌, Option, Some, refl, sym, ap, ◌∙◌, ◌⊎◌, inl, inr, subst}
+use Rattle.std.proofs.lemmas.Bool.{eq-eqb, le-ltb, lt-ltb, true≢false}
+use Rattle.std.specs.Prelude.{nat_lt}
 use Rattle.std.specs.List.{Contains, slice_get}
 use Rattle.ada_deeds.specs.Implicit.{implicit_of}
 use Rattle.ada_beside.specs.Confined.{IsConfined}
-use Rattle.ada_beside.specs.Law.{AllGoOn, GoesOn, IsWithin, LieBeside, NoneCeases, hidden_beside, no_ghosts}
+use Rattle.ada_beside.specs.Law.{AllGoOn, GoesOn, IsWithin, LieBeside, hidden_beside, no_ghosts}
 use Rattle.ada_beside.proofs.Law.{stays_within}
+use Rattle.ada_beside.proofs.Touched.{unwritten}
 use Rattle.ada_finalized.proofs.Doings.{Of, doings}
 use Rattle.ada_finalized.proofs.Invariant as finalized
 use Rattle.ada_finalized.proofs.Runs.{last_holds}
 use Rattle.ada_finalized.proofs.Standing.{listed_stand}
+use Rattle.ada_finalized.proofs.Treated.{cons_cases, none_in}
 use Rattle.ada_finalized.specs.Law.{NothingBegins}
 use Rattle.ada_meaning.specs.declared.state.Id.{Id}
 use Rattle.ada_meaning.specs.declared.state.Mode.{Mode}
@@ -26,7 +30,8 @@ use Rattle.ada_meaning.specs.Records.{component_in}
 use Rattle.ada_meaning.specs.Run.{Choice, Event, Leads, grants, settled}
 use Rattle.ada_meaning.specs.State.{Master}
 use Rattle.ada_meaning.specs.Step.{halts, moves, tells, asks, picks, places}
-use Rattle.ada_owners.specs.Keeping.{IsThere}
+use Rattle.ada_owners.specs.Places.{is_there}
+use Rattle.ada_parts.proofs.Facts.{eq_self}
 use Rattle.ada_program.specs.declared.program.Exception.{Exception}
 use Rattle.ada_program.specs.declared.program.Program.{Program}
 use Rattle.ada_program.specs.declared.program.TypeDefinition.{TypeDefinition}
@@ -34,9 +39,9 @@ use Rattle.ada_program.specs.declared.program.TypeNo.{TypeNo}
 use Rattle.ada_program.specs.declared.program.VariableKind.TheVariants as variable
 use Rattle.ada_program.specs.Freed.{FreesItsOwn}
 use Rattle.ada_program.specs.ProgramForm.{BodyForm, body_forms, program_form, seen_in}
-use Rattle.ada_program.specs.WellFormed.{IsWellFormed, kind_among, reached_components}
+use Rattle.ada_program.specs.WellFormed.{IsWellFormed, kind_among, object_named, reached_components, record_components}
 use Rattle.ada_quiet.specs.Bare.{has_bare_objects}
-use Rattle.ada_quiet.specs.InUse.{may_track}
+use Rattle.ada_quiet.specs.InUse.{count_found, may_track}
 use Rattle.ada_reaching.specs.Law as reaching
 use Rattle.ada_scopes.proofs.Components.{collect_two, items_fit}
 use Rattle.ada_scopes.proofs.Runs.{Scoped}
@@ -53,15 +58,20 @@ use Rattle.ada_untouched.proofs.Law.{steps_alike}
 use Rattle.ada_untouched.specs.Alike.{NextAlike, StatesAlike}
 use Rattle.ada_untouched.specs.Untouched.{Untouched}
 use Rattle.ada_untouched.specs.Unwritten.{Unwritten}
-use Rattle.ada_sound.proofs.Adjusting.{Adjusting, AdjustingCopy, LeavesAlone, is_one_of, put_aside, same_sparing}
-use Rattle.ada_sound.proofs.AdjustingEnds.{EndsCopy}
+use Rattle.ada_sound.proofs.Adjusting.{Adjusting, AdjustingCopy, IsAside, LeavesAlone, LeftAlone, Shunned, is_one_of, is_this, put_aside, same_sparing}
+use Rattle.ada_sound.proofs.AdjustingEnds.{ComponentsAreThere, EndsCopy}
 use Rattle.ada_sound.proofs.AdjustingEnters.{filled_in_program}
 use Rattle.ada_sound.proofs.CopiedBare.{one_contained}
+use Rattle.ada_typed.specs.Holding.{PartsLie}
 use Rattle.ada_sound.proofs.AdjustingGoes.{adjusting_goes, adjusting_returns, adjusting_stored, copies_no_access, is_watched, none_comes_out, spares_on}
 use Rattle.ada_sound.proofs.AdjustingSeen.{simple_begins}
 use Rattle.ada_sound.proofs.AdjustingSteps.{GoesAdjusting, InAdjusting, IsOrderly, SparesOn, houses_none}
 use Rattle.ada_sound.proofs.Blanked.{alters_unblanked, blanked_at, ends_unblanked, out_blanked, says_unblanked, stored_unblanked, unblanked}
-use Rattle.ada_sound.proofs.CopiedOwners.{CopyLeft, NameThere, hiding, names_still, owners_left}
+use Rattle.ada_sound.proofs.CopiedOwners.{AreCopied, CopyLeft, LiesOutside, NameThere, hiding, owners_left}
+use Rattle.ada_sound.proofs.CopiedNames.{names_by}
+use Rattle.ada_sound.proofs.Alters.{Alters}
+use Rattle.ada_sound.proofs.Trackers.{order_too}
+use Rattle.ada_sound.proofs.TracksWell.{copied_in_order}
 use Rattle.ada_sound.proofs.Finalization.{parts_alive}
 use Rattle.ada_sound.proofs.FrugalControl.{is_return_first}
 use Rattle.ada_sound.proofs.HousesIts.{first_houses_its}
@@ -70,9 +80,10 @@ use Rattle.ada_sound.proofs.Invariant.{Control, EndsWell}
 use Rattle.ada_sound.proofs.NoneHidden.{blanked_none}
 use Rattle.ada_sound.proofs.Operating.{InBody, StepsTo}
 use Rattle.ada_sound.proofs.PartsApart.{left_of_access}
-use Rattle.ada_sound.proofs.PutAside.{aside_here, hides_these, one_is_null, state_aside, state_is_aside, unwritten_aside, values_same}
+use Rattle.ada_sound.proofs.PutAside.{aside_here, hides_these, one_is_null, state_aside, state_is_aside, unwritten_aside}
 use Rattle.ada_sound.proofs.Returns.{CrossesTo, same_types}
-use Rattle.ada_sound.proofs.Sparing.{Sparing}
+use Rattle.ada_sound.proofs.Sparing.{Sparing, are_bare, bare_apart, is_around}
+use Rattle.ada_reaching.proofs.Law.{stays_reaching}
 use Rattle.ada_sound.proofs.Starts.{IsReached}
 use Rattle.ada_sound.proofs.StoredStates.{IsStored}
 use Rattle.ada_sound.proofs.TypedAside.{typed_aside}
@@ -151,6 +162,37 @@ within_now first (frame.Treats v treatment tasks ∷ k) ms inner simple houses =
 within_now first (Leaves left ∷ k) ms inner simple houses = (refl, tt, houses left k refl)
 within_now first (f ∷ k) ms inner simple houses = (refl, tt, tt)
 
+-- Objects that are found in one place are one.
+some_same : {x y : Object} → Some x ≡ Some y → x ≡ y
+some_same e = cc e
+
+-- What holds of each state holds whatever comes next, and what follows from what holds then.
+all_on : (P : State → Type 0) → ((t : State) → P t) → (n : Next) → reaching.AllGoOn P n
+all_on P each (halts halt) = tt
+all_on P each (moves e t) = each t
+all_on P each (tells request e t) = each t
+all_on P each (asks request answered) = λ granted. each (answered granted)
+all_on P each (picks n taken) = λ i less. each (taken i)
+
+all_map : (P Q : State → Type 0) → ((t : State) → P t → Q t) → (n : Next) → reaching.AllGoOn P n → reaching.AllGoOn Q n
+all_map P Q follows (halts halt) on = tt
+all_map P Q follows (moves e t) on = follows t on
+all_map P Q follows (tells request e t) on = follows t on
+all_map P Q follows (asks request answered) on = λ granted. follows (answered granted) (on granted)
+all_map P Q follows (picks n taken) on = λ i less. follows (taken i) (on i less)
+
+-- A component that a list has is one of it.
+one_has : (owners : List ℕ) (c : ℕ) → Contains owners c → is_one_of owners c ≡ true
+one_has [] c has = none_in c has
+one_has (d ∷ ds) c has = elim (cons_cases d c ds has) [ inl same ↦ first (eq-eqb d c same) | inr more ↦ second (d == c) (one_has ds c more) ]
+  where
+    first : (d == c) ≡ true → ((d == c) || is_one_of ds c) ≡ true
+    first is = rw is refl
+
+    second : (b : Bool) → is_one_of ds c ≡ true → (b || is_one_of ds c) ≡ true
+    second true is = refl
+    second false is = is
+
 -- So it is whatever comes next where that follows.
 steps_so : (P Q : Event → State → Type 0) → ((e : Event) (after : State) → P e after → Q e after) → (s : State) (n : Next) → StepsTo P s n → StepsTo Q s n
 steps_so P Q follows s (halts halt) goes = goes
@@ -187,7 +229,8 @@ module _ (program : Program) (s : State) (d : AdjustingCopy program s) where
   -- What the body leaves of the components that are put aside; and how it looks at the object.
   abbrev Spares : State → Type 0
   Spares after =
-      ((y : Object) → object_at after.heap d.object ≡ Some y → NameThere after.heap (values_at d.owners y.cell.values)) × LeavesAlone f.w d.owners after
+      ((y : Object) → object_at after.heap d.object ≡ Some y
+      → LeavesAlone program f.w d.object f.record_type d.left.0.first d.owners y.cell.values f.behind f.lower after)
       × Sparing program f.w.object f.access f.behind f.lower after
 
   -- The body runs on, in the state where they are put aside and in the real one.
@@ -203,17 +246,19 @@ module _ (program : Program) (s : State) (d : AdjustingCopy program s) where
           owners = d.owners;
           adjusting = g;
           same = run.1.object ∙ d.same;
-          left = rw (run.1.access, run.1.record_type, run.1.tasks) d.left;
           owned = rw (run.1.access, run.1.tasks) d.owned;
           x = y.0;
           found = y.1;
-          named = spares.0 y.0 y.1;
-          leaves_alone = subst (λ (w : View). LeavesAlone w d.owners after) (sym run.1.view) spares.1;
-          sparing = rw (run.1.view, run.1.access, run.1.behind, run.1.lower) spares.2;
+          left = rw (run.1.access, run.1.record_type, run.1.tasks, run.1.view, run.1.behind, run.1.lower) (left_so y.0 y.1);
+          sparing = rw (run.1.view, run.1.access, run.1.behind, run.1.lower) spares.1;
         };
         alters = a;
         says = says_unblanked (implicit_of (program_form program)) (seen_in (running_procedure after) (program_form program)) hides s.heap e (aside after) after refl run.0.says;
       }
+    where
+      left_so : (y : Object) → object_at after.heap d.object ≡ Some y
+          → LeftAlone program f.access f.record_type f.tasks f.w d.object d.owners y.cell.values f.behind f.lower after
+      left_so y at = (d.left.0, spares.0 y at)
 
   -- Where none is put aside, the two states are the same.
   module _ (none : d.owners ≡ []) where
@@ -230,12 +275,28 @@ module _ (program : Program) (s : State) (d : AdjustingCopy program s) where
     none_on : GoesAdjusting program (aside s) f (next tds bodies (aside s)) → StepsTo (InCopy program s.heap) s (next tds bodies s)
     none_on goes =
         steps_so (InAdjusting program (aside s) f) (InCopy program s.heap)
-        (λ e after run. copied_so e after (subst (InAdjusting program (aside s) f e) (sym (nothing_aside after)) run) ((λ y at. rw none tt), inl none, none_spares e after run)) s
+        (λ e after run. copied_so e after (subst (InAdjusting program (aside s) f e) (sym (nothing_aside after)) run) ((λ y at. inl none), none_spares e after run)) s
         (next tds bodies s)
         (subst (λ (t : State). StepsTo (InAdjusting program (aside s) f) t (next tds bodies t)) (nothing_aside s) goes)
 
+  -- The original stays as it is.
+  abbrev pub OriginalStays : (w : View) (r to : ℕ) (a : IsAside program w d.object r to d.owners d.x.cell.values f.behind f.lower s) → State → Type 0
+  OriginalStays w r to a after =
+      (a.copied.source ≡ d.object)
+      ⊎ ((a.copied.source ≢ d.object) × (object_at after.heap a.copied.source ≡ object_at s.heap a.copied.source)
+      × Shunned program a.copied.source f.behind f.lower after)
+
   -- Where some are, the body touches none of them.
-  module _ (reaches : ℕ → Bool) (beside : LieBeside f.w reaches (is_one_of d.owners)) (confined : IsConfined f.w reaches s) (watched : IsWatched f.w (places s) s.heap) (spares : SparesOn program f.w f.access f.behind f.lower s) (copies : CopiesNone tds f.w.object (is_one_of d.owners) s) (inner : is_return_first s.control ≡ false) where
+  module _ (a : IsAside program f.w d.object f.record_type d.left.0.first d.owners d.x.cell.values f.behind f.lower s) (watched : IsWatched f.w (places s) s.heap) (spares : SparesOn program f.w f.access f.behind f.lower s) (copies : CopiesNone tds f.w.object (is_one_of d.owners) s) (original : reaching.AllGoOn (OriginalStays f.w f.record_type d.left.0.first a) (next tds bodies s)) (inner : is_return_first s.control ≡ false) where
+    abbrev reaches : ℕ → Bool
+    reaches = a.reaches
+
+    abbrev beside : LieBeside f.w reaches (is_one_of d.owners)
+    beside = a.beside
+
+    abbrev confined : IsConfined f.w reaches s
+    confined = a.confined
+
     abbrev hidden : Id → (component : ℕ) → Bool
     hidden = hidden_beside f.w (is_one_of d.owners)
 
@@ -268,44 +329,133 @@ module _ (program : Program) (s : State) (d : AdjustingCopy program s) where
         subst (λ (found : Option Object). component_in found c ≡ slice_get d.x.cell.values c) at
         (hidden_stays tds bodies hidden s after choice e leads stays.1 d.object d.x d.found c (hides_one c is))
 
-    -- What is there stays there.
-    there_still : (after : List Object) → NoneCeases s.heap after → (o : Id) → IsThere s.heap o → IsThere after o
-    there_still after none_ceases o (x, found, there) =
-        let y = none_ceases o x found ((copy_stored.1.sane o x found).there_exists there) in
-        (y.0, y.1, rw y.2 refl)
+    -- What lies outside of the copy does not lie in the record of the body.
+    abbrev to : ℕ
+    to = d.left.0.first
+
+    abbrev width : ℕ
+    width = count_found (record_components (program_form program).types f.record_type)
+
+    abbrev is_outside : ℕ → Bool
+    is_outside c = nat_lt c to || not (nat_lt c (to + width))
+
+    outside_apart : LieBeside f.w reaches is_outside
+    outside_apart e reached =
+        let inside = a.within e reached in
+        let low : nat_lt (f.w.base + e) to ≡ false = le-ltb (f.w.base + e) to inside.0 in
+        let high : nat_lt (f.w.base + e) (to + width) ≡ true = lt-ltb (f.w.base + e) (to + width) inside.1 in
+        rw (low, high) refl
+
+    outside_is : (c : ℕ) → LiesOutside to width c → is_outside c ≡ true
+    outside_is c (inl before) = let low : nat_lt c to ≡ true = lt-ltb c to before in rw low refl
+    outside_is c (inr behind) = let high : nat_lt c (to + width) ≡ false = le-ltb c (to + width) behind in rw high (any_or (nat_lt c to))
+      where
+        any_or : (b : Bool) → (b || true) ≡ true
+        any_or true = refl
+        any_or false = refl
+
+    -- So it stays.
+    outside_there : (choice : Choice) (e : Event) (after : State) → Leads (next tds bodies s) choice e after
+        → (y : Object) → object_at after.heap d.object ≡ Some y → (c : ℕ) → LiesOutside to width c → slice_get y.cell.values c ≡ slice_get d.x.cell.values c
+    outside_there choice e after leads y at c outside =
+        let here : hidden_beside f.w is_outside f.w.object c ≡ true = rw (eq_self f.w.object.0) (outside_is c outside) in
+        subst (λ (found : Option Object). component_in found c ≡ slice_get d.x.cell.values c) at
+        (hidden_stays tds bodies (hidden_beside f.w is_outside) s after choice e leads
+        (unwritten tds f.w reaches is_outside outside_apart s watched (within_now f.w.tracks.first s.control s.masters inner f.simple (λ left k at. houses_none program (aside s) f left k at)) confined)
+        d.object d.x d.found c (subst (λ (o : Id). hidden_beside f.w is_outside o c ≡ true) view_object here))
+
+    -- What is put aside is that of the original, as before.
+    aside_on : (choice : Choice) (e : Event) (after : State) → Leads (next tds bodies s) choice e after → GoesOn f.w reaches s.heap after
+        → OriginalStays f.w f.record_type to a after → Alters s.heap e after.heap → (y : Object) → object_at after.heap d.object ≡ Some y
+        → IsAside program f.w d.object f.record_type to d.owners y.cell.values f.behind f.lower after
+    aside_on choice e after leads goes stays alters y at = by stays
+      where
+        held : (n : ℕ) (p : Id) → Contains d.owners n → slice_get y.cell.values n ≡ Some (Names p) → slice_get d.x.cell.values n ≡ Some (Names p)
+        held n p has holds = sym (held_there choice e after leads y at n (one_has d.owners n has)) ∙ holds
+
+        by : OriginalStays f.w f.record_type to a after → IsAside program f.w d.object f.record_type to d.owners y.cell.values f.behind f.lower after
+        by (inr (ne, same, shunned)) = record {
+          reaches = reaches;
+          beside = beside;
+          within = a.within;
+          confined = goes.confined;
+          copied = record {
+            source = a.copied.source;
+            first = a.copied.first;
+            part = a.copied.part;
+            object = a.copied.object;
+            found = same ∙ a.copied.found;
+            there = a.copied.there;
+            lies = a.copied.lies;
+            elsewhere = a.copied.elsewhere;
+            holds = λ n p has less outside holds. a.copied.holds n p has less outside (held (to + n) p has holds);
+          };
+          original = inr (ne, shunned);
+        }
+        by (inl itself) =
+            let one : a.copied.object ≡ d.x = some_same (sym a.copied.found ∙ ap (object_at s.heap) itself ∙ d.found) in
+            let changed = alters.kept d.object d.x d.found in
+            let access : y.cell.access ≡ d.x.cell.access = ap (λ (z : Object). z.cell.access) (some_same (sym at ∙ changed.1)) ∙ changed.2.0 in
+            let w_found : object_at s.heap f.w.object ≡ Some d.x = subst (λ (o : Id). object_at s.heap o ≡ Some d.x) (sym view_object) d.found in
+            let exists : d.x.stage ≡ Existing = ap (λ (z : Object). z.stage) (some_same (sym w_found ∙ watched.at_object)) ∙ watched.existing in
+            let remained = goes.remains d.x w_found exists in
+            let w_at : object_at after.heap f.w.object ≡ Some y = subst (λ (o : Id). object_at after.heap o ≡ Some y) (sym view_object) at in
+            let there : is_there y.stage ≡ true = rw (ap (λ (z : Object). z.stage) (some_same (sym w_at ∙ remained.1)) ∙ remained.2) refl in
+            record {
+              reaches = reaches;
+              beside = beside;
+              within = a.within;
+              confined = goes.confined;
+              copied = record {
+                source = d.object;
+                first = a.copied.first;
+                part = a.copied.part;
+                object = y;
+                found = at;
+                there = there;
+                lies =
+                    subst (λ (access : ℕ). PartsLie (program_form program).types (object_named (program_form program).types (Some access)) (Some f.record_type) a.copied.first a.copied.part)
+                    (ap (λ (z : Object). z.cell.access) one ∙ sym access) a.copied.lies;
+                elsewhere = λ same. a.copied.elsewhere (sym itself);
+                holds = λ n p has less outside holds.
+                    outside_there choice e after leads y at (a.copied.first + n) (outside refl)
+                    ∙ (ap (λ (z : Object). slice_get z.cell.values (a.copied.first + n)) (sym one)
+                    ∙ a.copied.holds n p has less (λ same. outside refl) (held (to + n) p has holds));
+              };
+              original = inl refl;
+            }
 
     -- So the real state goes on as the other one does.
     both_on : (choice : Choice) (e : Event) (after t : State) → Leads (next tds bodies s) choice e after → Leads (next tds bodies (aside s)) choice e t
-        → StatesAlike hidden no_ghosts after t → GoesOn f.w reaches s.heap after → Sparing program f.w.object f.access f.behind f.lower after
+        → StatesAlike hidden no_ghosts after t → GoesOn f.w reaches s.heap after → OriginalStays f.w f.record_type to a after
+        → Sparing program f.w.object f.access f.behind f.lower after
         → InAdjusting program (aside s) f e t → InCopy program s.heap e after
-    both_on choice e after t leads leads_too alike goes spared run =
+    both_on choice e after t leads leads_too alike goes stays_so spared run =
         let t_is : t ≡ aside after =
         subst (λ (o : Id). t ≡ put_aside d.owners o after) view_object
         (state_is_aside f.w d.owners after t alike (λ c y u at is holds. null_there choice e t leads_too c y u (subst (λ (o : Id). object_at t.heap o ≡ Some y) view_object at) is holds)) in
         let run_there : InAdjusting program (aside s) f e (aside after) = subst (InAdjusting program (aside s) f e) t_is run in
         copied_so e after run_there (
-          (λ y at. rw (values_same d.owners y.cell.values d.x.cell.values (held_there choice e after leads y at))
-              (names_still s.heap after.heap (values_at d.owners d.x.cell.values) (there_still after.heap goes.none_ceases) d.named)),
-          inr (reaches, beside, goes.confined),
+          (λ y at. inr (aside_on choice e after leads goes stays_so (alters_unblanked (hiding d.owners d.object) s.heap after.heap e run_there.0.alters) y at)),
           spared,
         )
 
     next_on : (n m : Next) → next tds bodies s ≡ n → next tds bodies (aside s) ≡ m → NextAlike hidden no_ghosts n m → AllGoOn f.w reaches s.heap n
-        → reaching.AllGoOn (Sparing program f.w.object f.access f.behind f.lower) n → GoesAdjusting program (aside s) f m → StepsTo (InCopy program s.heap) s n
-    next_on (halts halt) m n_is m_is alike on spared goes =
+        → reaching.AllGoOn (OriginalStays f.w f.record_type to a) n → reaching.AllGoOn (Sparing program f.w.object f.access f.behind f.lower) n → GoesAdjusting program (aside s) f m → StepsTo (InCopy program s.heap) s n
+    next_on (halts halt) m n_is m_is alike on still spared goes =
         let ends : EndsWell halt (aside s).heap s.masters = subst (GoesAdjusting program (aside s) f) alike goes in
         ends_unblanked (hiding d.owners d.object) halt s.heap s.masters ends
-    next_on (moves e after) m n_is m_is (t, is, alike, kept) on spared goes =
-        both_on settled e after t (rw n_is (refl, refl)) (rw (m_is, is) (refl, refl)) alike on spared (subst (GoesAdjusting program (aside s) f) is goes)
-    next_on (tells request e after) m n_is m_is (t, is, alike, kept) on spared goes =
-        both_on settled e after t (rw n_is (refl, refl)) (rw (m_is, is) (refl, refl)) alike on spared (subst (GoesAdjusting program (aside s) f) is goes)
-    next_on (asks request answered) m n_is m_is (answers, is, alike) on spared goes = λ granted.
+    next_on (moves e after) m n_is m_is (t, is, alike, kept) on still spared goes =
+        both_on settled e after t (rw n_is (refl, refl)) (rw (m_is, is) (refl, refl)) alike on still spared (subst (GoesAdjusting program (aside s) f) is goes)
+    next_on (tells request e after) m n_is m_is (t, is, alike, kept) on still spared goes =
+        both_on settled e after t (rw n_is (refl, refl)) (rw (m_is, is) (refl, refl)) alike on still spared (subst (GoesAdjusting program (aside s) f) is goes)
+    next_on (asks request answered) m n_is m_is (answers, is, alike) on still spared goes = λ granted.
         (let all : GoesAdjusting program (aside s) f (asks request answers) = subst (GoesAdjusting program (aside s) f) is goes in
-        both_on (grants granted) Quiet (answered granted) (answers granted) (rw n_is (refl, refl)) (rw (m_is, is) (refl, refl)) (alike granted) (on granted) (spared granted) (all granted))
-    next_on (picks n taken) m n_is m_is alike on spared goes = absurd on
+        both_on (grants granted) Quiet (answered granted) (answers granted) (rw n_is (refl, refl)) (rw (m_is, is) (refl, refl)) (alike granted) (on granted) (still granted) (spared granted) (all granted))
+    next_on (picks n taken) m n_is m_is alike on still spared goes = absurd on
 
     some_on : GoesAdjusting program (aside s) f (next tds bodies (aside s)) → StepsTo (InCopy program s.heap) s (next tds bodies s)
-    some_on goes = next_on (next tds bodies s) (next tds bodies (aside s)) refl refl alike_next stays.2 spares.1 goes
+    some_on goes = next_on (next tds bodies s) (next tds bodies (aside s)) refl refl alike_next stays.2 original spares.1 goes
 
 -- The body runs behind a step, or what waits for it goes on.
 abbrev pub WentOn : (program : Program) (s : State) → AdjustingCopy program s → Event → State → Type 0
@@ -341,7 +491,7 @@ module _
   of_access : (c : ℕ) → Contains d.owners c → (a : TypeNo) × (kind_among (reached_components (program_form program).types d.x.cell.access) c ≡ Some (variable.Access a))
   of_access c has =
       let types = (program_form program).types in
-      let left = subst (λ (access : ℕ). CopyLeft types access g.record_type g.tasks) (sym real_like.0) d.left in
+      let left = subst (λ (access : ℕ). CopyLeft types access g.record_type g.tasks) (sym real_like.0) d.left.0 in
       let same = d.owned ∙ ap (λ (access : ℕ). owners_left types access g.tasks) (sym real_like.0) in
       left_of_access program well d.x.cell.access g.record_type g.tasks left c (subst (λ (owners : List ℕ). Contains owners c) same has)
 
@@ -366,18 +516,62 @@ module _
       copies_no_access program well may (put_aside d.owners d.object s) g s.heap typing d.x real_found real_like.0 (is_one_of d.owners)
       (λ c is. of_access c (one_contained d.owners c is)) d.sparing
 
+  -- The original of the copy stays: where it lies in another object, the body leaves that as it is.
+  original_stays :
+      (a : IsAside program g.w d.object g.record_type d.left.0.first d.owners d.x.cell.values g.behind g.lower s) → is_return_first s.control ≡ false
+      → reaching.AllGoOn (OriginalStays program s d g.w g.record_type d.left.0.first a) (next program.types.items (body_forms program) s)
+  original_stays a inner =
+      elim a.original [
+        | inl itself ↦ all_on (OriginalStays program s d g.w g.record_type d.left.0.first a) (λ after. inl itself) (next program.types.items (body_forms program) s)
+        | inr (ne, shunned) ↦
+            (let stored = copy_stored program s d in
+            all_map (reaching.GoesOn (program_form program) (is_around shunned.around) (bare_apart program) (is_this a.copied.source) shunned.unnamed g.behind g.lower s.heap)
+            (OriginalStays program s d g.w g.record_type d.left.0.first a)
+            (λ after on. inr (
+              ne,
+              on.same a.copied.source (eq_self a.copied.source.0),
+              record { around = shunned.around; unnamed = shunned.unnamed; reaching = on.reaching },
+            )) (next program.types.items (body_forms program) s)
+            (stays_reaching program well (is_around shunned.around) (bare_apart program) (are_bare program (is_around shunned.around)) (is_this a.copied.source)
+            shunned.unnamed g.behind g.lower s typing shunned.reaching (record {
+              on = λ ends. true≢false (sym (ap is_return_first ends) ∙ inner);
+              houses = first_houses_its s.control s.heap s.masters stored.1;
+            })).1)
+      ]
+
   inner_on : is_return_first s.control ≡ false → StepsTo (InCopy program s.heap) s (next program.types.items (body_forms program) s)
   inner_on inner =
       let goes = adjusting_goes program well may frees (put_aside d.owners d.object s) (orderly_aside program well s reached d.owners d.object g nested) typing_aside g exists inner in
-      elim d.leaves_alone [ inl none ↦ none_on program s d none goes | inr (reaches, beside, confined) ↦ some_on program s d reaches beside confined watched (spared inner) none_copied inner goes ]
+      elim d.left.1 [
+        | inl none ↦ none_on program s d none goes
+        | inr a ↦ some_on program s d a watched (spared inner) none_copied (original_stays a inner) inner goes
+      ]
+
+  -- Where the components come from that are put aside.
+  come_from :
+      AreCopied (program_form program).types s.heap g.object g.record_type d.left.0.first (owners_left (program_form program).types g.access g.tasks) d.x.cell.values
+  come_from =
+      subst (λ (o : Id). AreCopied (program_form program).types s.heap o g.record_type d.left.0.first (owners_left (program_form program).types g.access g.tasks) d.x.cell.values)
+      (sym d.same)
+      (subst (λ (cs : List ℕ). AreCopied (program_form program).types s.heap d.object g.record_type d.left.0.first cs d.x.cell.values) d.owned
+      (elim d.left.1 [ inl none ↦ inl none | inr a ↦ inr a.copied ]))
+
+  -- So what they name is there.
+  names_left :
+      ComponentsAreThere (put_aside d.owners d.object s).heap
+      → NameThere s.heap (values_at (owners_left (program_form program).types g.access g.tasks) d.x.cell.values)
+  names_left are =
+      names_by program well (copied_in_order (program_form program) well (order_too (program_form program) may)) g.access g.record_type g.tasks d.left.0 s.heap g.object d.x
+      real_found come_from (rw (sym d.owned, d.same) are)
 
   ends_copy : EndsCopy program (put_aside d.owners d.object s) g s.heap
   ends_copy = record {
     x = d.x;
     found = real_found;
-    copied = d.left;
+    copied = d.left.0;
     aside = rw (sym d.owned, d.same) refl;
-    named = rw (sym d.owned) d.named;
+    names = names_left;
+    come_from = come_from;
   }
 
   end_on : is_return_first s.control ≡ true → GoesOrEnds program s d (next program.types.items (body_forms program) s)

@@ -2,6 +2,7 @@
 
 use Rattle.std.proofs.Common.{◌≡◌, ℕ, true, List, [], ◌∷◌, ◌++◌, refl, sym, ap, ◌∙◌, subst, inl, inr}
 use Rattle.std.specs.Prelude.{Some, None}
+use Rattle.std.specs.List.{slice_get}
 use Rattle.ada_program.specs.declared.program.Exception.{Exception}
 use Rattle.ada_program.specs.declared.program.Program.{Program}
 use Rattle.ada_program.specs.ProgramForm.{BodyForm, ProgramForm, TypeForm, VariableForm, program_form, body_forms, seen_by, seen_in}
@@ -10,6 +11,7 @@ use Rattle.ada_flow.specs.Flow.{Holds, all_give_back, gives_back, hold_at}
 use Rattle.ada_flow.specs.Tracking.{judged, with_tracked, tracked_numbers}
 use Rattle.ada_judged.specs.Fitting.{TracksComponents}
 use Rattle.ada_meaning.specs.declared.event.Birth.{Birth}
+use Rattle.ada_meaning.specs.declared.state.Id.{Id}
 use Rattle.ada_meaning.specs.declared.state.Mode.{Mode}
 use Rattle.ada_meaning.specs.declared.state.Mode.TheVariants.{Running, Raising, Exiting, Returning}
 use Rattle.ada_meaning.specs.declared.state.Place.{Place}
@@ -21,7 +23,7 @@ use Rattle.ada_meaning.specs.Frame.{Returns, begins}
 use Rattle.ada_meaning.specs.State.{Activation, Master}
 use Rattle.ada_meaning.specs.Step.{moves, places, mode_next, places_of, older}
 use Rattle.ada_meaning.specs.Named.{Object, State, named, next, object_at}
-use Rattle.ada_owners.specs.Places.{access_at}
+use Rattle.ada_owners.specs.Places.{access_at, is_there}
 use Rattle.ada_owners.proofs.Objects.{present_at}
 use Rattle.ada_tracked.specs.Frames.{View, blanked, tracked_values, values_at}
 use Rattle.ada_tracked.specs.Seen.{FormalIsFirst, IsWatched, seen_state}
@@ -35,7 +37,8 @@ use Rattle.ada_sound.proofs.Alters.{alters_same}
 use Rattle.ada_sound.proofs.Blanked.{blanked_at, stored_unblanked, unblanked}
 use Rattle.ada_sound.proofs.BlankedEnds.{all_lost, judged_ends}
 use Rattle.ada_sound.proofs.Callers.{AreOf, Stands, Suspension, caller_of, callers_of, known_in}
-use Rattle.ada_sound.proofs.CopiedOwners.{CopyLeft, NameThere, hiding, owners_left}
+use Rattle.ada_sound.proofs.CopiedOwners.{AreCopied, CopyLeft, NamesThere, NameThere, hiding, owners_left}
+use Rattle.ada_sound.proofs.HiddenOwners.{components_there}
 use Rattle.ada_sound.proofs.Fits.{Fit, IsWithin, Outsiders, none_spared}
 use Rattle.ada_sound.proofs.Invariant.{AdjustsAside, AdjustsTo, Control, GoesOn, Known, Ready, ReadyIn, Rooms, RunsOn, Standing, TreatsBy, Working, outer_of, outers, owed_in}
 use Rattle.ada_sound.proofs.Judged.{known_judged}
@@ -54,6 +57,11 @@ give_behind (x ∷ xs) ys holds gave = give_behind xs ys holds (and_right (gives
 tracked_give : (xs ys : List ℕ) (holds : Holds) → all_give_back (with_tracked xs ys) holds ≡ true → all_give_back ys holds ≡ true
 tracked_give xs [] holds gave = refl
 tracked_give xs (y ∷ ys) holds gave = give_behind xs (y ∷ ys) holds gave
+
+-- What components hold of an object that is there, if it names anything, names what is there.
+abbrev pub ComponentsAreThere : List Object → Type 0
+ComponentsAreThere heap =
+    (q : Id) (y : Object) → object_at heap q ≡ Some y → is_there y.stage ≡ true → (c : ℕ) (v : Value) → slice_get y.cell.values c ≡ Some v → NamesThere heap v
 
 -- Variables of a body fit on a heap, whichever they are.
 pub record FitsOn (types : List TypeForm) (outer : Outsiders) (heap : List Object) : Type 0 where
@@ -243,7 +251,12 @@ module _ (program : Program) (s : State) (f : Adjusting program s) (a b : Activa
   module _
       (heap : List Object) (x : Object) (found : object_at heap f.object ≡ Some x) (remains : CopyLeft (program_form program).types f.access f.record_type f.tasks)
       (aside : s.heap ≡ blanked (hiding (owners_left (program_form program).types f.access f.tasks) f.object) heap)
-      (named : NameThere heap (values_at (owners_left (program_form program).types f.access f.tasks) x.cell.values)) where
+      (names : ComponentsAreThere s.heap → NameThere heap (values_at (owners_left (program_form program).types f.access f.tasks) x.cell.values))
+      (come_from : AreCopied (program_form program).types heap f.object f.record_type remains.first (owners_left (program_form program).types f.access f.tasks) x.cell.values) where
+    -- What they name is there: components of the original own it.
+    names_there : NameThere heap (values_at (owners_left (program_form program).types f.access f.tasks) x.cell.values)
+    names_there = names (λ q y at there c v holds. components_there s.heap q y at own_fit there c v holds)
+
     abbrev hides : View
     hides = hiding (owners_left (program_form program).types f.access f.tasks) f.object
 
@@ -262,14 +275,15 @@ module _ (program : Program) (s : State) (f : Adjusting program s) (a b : Activa
     -- What is left of the copy is adjusted next.
     abbrev AdjustsBy : List TypeForm → (access : ℕ) → Type 0
     AdjustsBy types access =
-        CopyLeft types access f.record_type f.tasks × NameThere heap (values_at (owners_left types access f.tasks) x.cell.values)
+        ((left : CopyLeft types access f.record_type f.tasks) × AreCopied types heap f.object f.record_type left.first (owners_left types access f.tasks) x.cell.values)
+        × NameThere heap (values_at (owners_left types access f.tasks) x.cell.values)
         × Working own (blanked (hiding (owners_left types access f.tasks) f.object) heap) f.places f.lower (λ rooms holds. RunsOn own f.after rooms holds × AdjustsAside own access f.record_type holds)
 
     adjusts_by : AdjustsBy own.program.types x.cell.access
     adjusts_by =
         let works_there =
         subst (λ (objects : List Object). Working own objects f.places f.lower (λ rooms holds. RunsOn own f.after rooms holds × AdjustsAside own f.access f.record_type holds)) aside own_works in
-        subst (λ (types : List TypeForm). AdjustsBy types x.cell.access) (sym own_types) (subst (AdjustsBy (program_form program).types) (sym like.0) (remains, named, works_there))
+        subst (λ (types : List TypeForm). AdjustsBy types x.cell.access) (sym own_types) (subst (AdjustsBy (program_form program).types) (sym like.0) ((remains, come_from), names_there, works_there))
 
     adjusts_to : AdjustsTo own (Names f.object) f.tasks f.after heap f.places f.lower
     adjusts_to = record {
@@ -279,7 +293,8 @@ module _ (program : Program) (s : State) (f : Adjusting program s) (a b : Activa
       found = found;
       there = rw like.1 refl;
       record_type = f.record_type;
-      left = adjusts_by.0;
+      left = adjusts_by.0.0;
+      copied = adjusts_by.0.1;
       named = adjusts_by.1;
       works = adjusts_by.2;
     }
@@ -327,7 +342,10 @@ pub record EndsCopy (program : Program) (s : State) (f : Adjusting program s) (h
   pub found : object_at heap f.object ≡ Some x
   pub copied : CopyLeft (program_form program).types f.access f.record_type f.tasks
   pub aside : s.heap ≡ blanked (hiding (owners_left (program_form program).types f.access f.tasks) f.object) heap
-  pub named : NameThere heap (values_at (owners_left (program_form program).types f.access f.tasks) x.cell.values)
+  -- where components of each object that is there name what is there, those do that are put aside
+  pub names : ComponentsAreThere s.heap → NameThere heap (values_at (owners_left (program_form program).types f.access f.tasks) x.cell.values)
+  pub come_from :
+      AreCopied (program_form program).types heap f.object f.record_type copied.first (owners_left (program_form program).types f.access f.tasks) x.cell.values
 
 -- When the end of the body is next, what waits for it goes on.
 pub adjusting_ends :
@@ -337,6 +355,6 @@ pub adjusting_ends :
 adjusting_ends program s f a b rest acts_so ends_now masters_are get_back heap c = (
   left program s f a b rest acts_so ends_now masters_are get_back heap,
   goes_now program s f a b rest acts_so ends_now masters_are get_back heap,
-  crosses_back program s f a b rest acts_so ends_now masters_are get_back heap c.x c.found c.copied c.aside c.named,
+  crosses_back program s f a b rest acts_so ends_now masters_are get_back heap c.x c.found c.copied c.aside c.names c.come_from,
   refl,
 )

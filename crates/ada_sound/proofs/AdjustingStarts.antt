@@ -1,7 +1,8 @@
 -- The Adjust of a copy is called that tracks components (7.6): its body begins in a sound state.
 
-use Rattle.std.proofs.Common.{◌≡◌, ◌≢◌, ℕ, true, false, List, [], ◌∷◌, length, drop, refl, sym, ap, subst, ◌∙◌, Bool, ◌+◌, ◌<◌, ◌≤◌, inl, inr, arith}
-use Rattle.std.proofs.lemmas.Bool.{eqb-true, ltb-true}
+use Rattle.std.proofs.Common.{◌≡◌, ◌≢◌, ℕ, true, false, List, [], ◌∷◌, length, drop, refl, sym, ap, subst, ◌∙◌, ◌&&◌, not, Bool, ◌+◌, ◌<◌, ◌≤◌, inl, inr, arith}
+use Rattle.std.proofs.lemmas.Bool.{and_parts, ltb-true}
+use Rattle.std.proofs.lemmas.List.Elements.{Contains-append_right}
 use Rattle.std.specs.List.{list_all, slice_get}
 use Rattle.std.specs.Prelude.{Option, Some, None}
 use Rattle.ada_beside.specs.Law.{LieBeside}
@@ -13,7 +14,7 @@ use Rattle.ada_meaning.specs.Frame as frame
 use Rattle.ada_meaning.specs.Frame.{Treatment, begins}
 use Rattle.ada_meaning.specs.Named.{Object, State, named, object_at}
 use Rattle.ada_meaning.specs.Run.{Event}
-use Rattle.ada_meaning.specs.State.{Activation}
+use Rattle.ada_meaning.specs.State.{Activation, Master}
 use Rattle.ada_meaning.specs.Step.{operating, places}
 use Rattle.ada_meaning.specs.declared.event.Birth.TheVariants.{Creation, Copy, Adjustment}
 use Rattle.ada_meaning.specs.declared.event.Birth.{Birth}
@@ -26,31 +27,34 @@ use Rattle.ada_meaning.specs.declared.state.Value.{Value}
 use Rattle.ada_parts.specs.Task.{Task, performs}
 use Rattle.ada_program.specs.Controlled.{operations_of}
 use Rattle.ada_program.specs.ProgramForm.{ProgramForm, TypeForm, body_forms, main_body, program_form, seen_by, seen_in}
-use Rattle.ada_program.specs.WellFormed.{IsWellFormed, reached_components, variable_kind, count_said, finalization_in, part_count, record_components}
+use Rattle.ada_program.specs.WellFormed.{IsWellFormed, is_access, object_named, reached_components, variable_kind, record_components}
 use Rattle.ada_program.specs.declared.program.ComponentKind.{ComponentKind}
-use Rattle.ada_program.specs.declared.program.Finalization.{Finalization}
 use Rattle.ada_program.specs.declared.program.Program.{Program}
 use Rattle.ada_program.specs.declared.program.VariableKind.TheVariants as variable_kinds
 use Rattle.ada_quiet.specs.Apart.{body_calls_apart, is_tracker}
 use Rattle.ada_quiet.specs.Bare.{has_bare_objects}
 use Rattle.ada_quiet.specs.Idle.{copies_parts}
-use Rattle.ada_quiet.specs.InUse.{may_be_frugal, adjusts_alone, count_found, has_one_part}
+use Rattle.ada_quiet.specs.InUse.{may_be_frugal, count_found}
 use Rattle.ada_quiet.specs.Simple.{holds_one_value, is_simple_body}
 use Rattle.ada_reaching.specs.Forms.{body_shuns}
+use Rattle.ada_reaching.specs.Reaching.{AreLow, IsGhost}
+use Rattle.ada_reaching.proofs.Law.{operation_reaches}
 use Rattle.ada_sound.specs.Always.{LetsNothingOut, SparesAdjusted, SparesOwn}
 use Rattle.ada_sound.proofs.AdjustedParts.{adjusted_frees}
-use Rattle.ada_sound.proofs.Adjusting.{IsOfCopy, copied, assigned, AdjustingCopy, LeavesAlone, is_one_of, same_sparing}
+use Rattle.ada_sound.proofs.Adjusting.{IsOfCopy, copied, assigned, AdjustingCopy, LeavesAlone, LeftAlone, LieWithin, Shunned, is_one_of, is_this, same_sparing}
 use Rattle.ada_sound.proofs.AdjustingBegins.{Copied, adjusting_begins, begins_as_judged, AdjustsIn}
-use Rattle.ada_sound.proofs.AdjustingEnters.{adjust_called, called_operable, copied_type, copied_where_called, copy_among, copy_tracks, copy_view, called_left, copy_beside, copy_declares, copy_found, copy_heap, copy_left, copy_names_left, copy_object, copy_of_access, copy_owners, copy_record, formal_components, not_one}
+use Rattle.ada_sound.proofs.AdjustingEnters.{adjust_called, called_operable, copied_type, copied_where_called, copy_among, copy_tracks, copy_view, called_begins, called_record, copy_beside, copy_declares, copy_found, copy_heap, copy_left, copy_object, copy_of_access, copy_owners, copy_record, formal_components, not_one}
 use Rattle.ada_sound.proofs.AdjustingGoes.{in_a_row}
 use Rattle.ada_sound.proofs.Alters.{Alters, alters_set}
 use Rattle.ada_sound.proofs.BareObjects.{frugal_frees_bare}
-use Rattle.ada_sound.proofs.Blanked.{out_blanked}
-use Rattle.ada_sound.proofs.Stored.{AllOut}
+use Rattle.ada_sound.proofs.Blanked.{out_blanked, stored_unblanked}
+use Rattle.ada_sound.proofs.Stored.{AllOut, listed_out}
 use Rattle.ada_sound.proofs.Callers.{AreCalls, Suspension, Stands, known_in}
 use Rattle.ada_sound.proofs.CallsApart.{CallApart}
 use Rattle.ada_sound.proofs.ConfinedBodies.{confined_body, reaches_record}
-use Rattle.ada_sound.proofs.CopiedOwners.{BeginsCopy, CopyLeft, hiding, owners_left}
+use Rattle.ada_sound.proofs.CopiedOwners.{AreCopied, BeginsCopy, CopiedFrom, CopyLeft, hiding, owners_left, part_owners}
+use Rattle.ada_sound.proofs.CopyParts.{called_first, copied_fewer, left_called}
+use Rattle.ada_sound.proofs.Calls.{home_low}
 use Rattle.ada_sound.proofs.Fits.{IsWithin}
 use Rattle.ada_sound.proofs.Invariant.{Control, CoveredIn}
 use Rattle.ada_sound.proofs.Judged.{judged_in}
@@ -65,7 +69,7 @@ use Rattle.ada_sound.proofs.OnlyParts.{passed_at}
 use Rattle.ada_sound.proofs.Operating.{IsCalm, WaitsFor}
 use Rattle.ada_sound.proofs.OperationBegins.{formal_holds, formal_within}
 use Rattle.ada_sound.proofs.OrderlyBodies.{lone_body, orderly_body}
-use Rattle.ada_sound.proofs.PartsApart.{PartWithin, alone_left}
+use Rattle.ada_sound.proofs.PartsApart.{PartWithin, walked_sizes}
 use Rattle.ada_sound.proofs.QuietOperations.{MayTrack}
 use Rattle.ada_sound.proofs.Returns.{same_types}
 use Rattle.ada_sound.proofs.ShunsAround.{shuns_around}
@@ -74,12 +78,19 @@ use Rattle.ada_sound.proofs.Sparing.{Sparing, bare_apart, begins_sparing, is_aro
 use Rattle.ada_sound.proofs.Starts.{Obeys}
 use Rattle.ada_sound.proofs.Touching.{resting}
 use Rattle.ada_sound.proofs.TouchingBegins.{IsAlone, alone}
-use Rattle.ada_sound.proofs.Trackers.{calls_stand_apart, frugal_too, stands_apart}
+use Rattle.ada_sound.proofs.Trackers.{calls_stand_apart, frugal_too, order_too, stands_apart}
+use Rattle.ada_sound.proofs.TracksWell.{copied_in_order}
 use Rattle.ada_sound.proofs.TracksApart.{tracks_apart}
 use Rattle.ada_sound.proofs.Treatments.{BeginsAdjust}
 use Rattle.ada_sound.proofs.TypedAside.{typed_aside}
 use Rattle.ada_sound.proofs.WatchedBy.{given_count, some_variable, watched_by}
+use Rattle.ada_owners.proofs.Kernel.{same_id}
+use Rattle.ada_owners.proofs.Objects.{id_is}
+use Rattle.ada_parts.proofs.Facts.{eq_self}
 use Rattle.ada_tracked.proofs.Heaps.{blanked_here}
+use Rattle.ada_tracked.proofs.Lists.{apart_is, is_same}
+use Rattle.ada_typed.proofs.Lying.{IsOperable, placed}
+use Rattle.ada_typed.proofs.Walking.{walks_to}
 use Rattle.ada_tracked.specs.Frames.{View, blank_object, watched, blanked}
 use Rattle.ada_tracked.specs.Seen.{IsWatched, seen_state}
 use Rattle.ada_typed.proofs.Bodies.{seen_as, seen_fits, tables_in}
@@ -95,18 +106,19 @@ of_copy Creation copies = absurd copies
 of_copy Copy copies = copied
 of_copy (Adjustment number) copies = assigned number
 
--- What has one controlled part at most has no more.
-one_most : (o : Option Finalization) → has_one_part o ≡ true → count_said o ≤ 1
-one_most None one = omega arith
-one_most (Some f) one = let count = eqb-true f.parts 1 one in omega (arith, count)
-
--- What is left of the adjustment of a record is left of that of the same record.
-same_left :
-    (types : List TypeForm) (access r access_too r_too : ℕ) (tasks tasks_too : List Task) → access_too ≡ access → r_too ≡ r → tasks_too ≡ tasks
-    → CopyLeft types access r tasks → CopyLeft types access_too r_too tasks_too
-same_left types access r access_too r_too tasks tasks_too a b c left =
-    subst (λ (n : ℕ). CopyLeft types n r_too tasks_too) (sym a)
-    (subst (λ (n : ℕ). CopyLeft types access n tasks_too) (sym b) (subst (λ (ts : List Task). CopyLeft types access r ts) (sym c) left))
+-- What is left of the adjustment of a record is left of that of the same record, and so it is with what is put aside.
+same_alone :
+    (program : Program) (access r : ℕ) (tasks : List Task) (w : View) (behind : Control) (lower : List Master) (access_too r_too : ℕ) (tasks_too : List Task)
+    (w_too : View) (behind_too : Control) (lower_too : List Master) → access_too ≡ access → r_too ≡ r → tasks_too ≡ tasks → w_too ≡ w → behind_too ≡ behind
+    → lower_too ≡ lower → (o : Id) (owners : List ℕ) (vs : List Value) (s : State) → LeftAlone program access r tasks w o owners vs behind lower s
+    → LeftAlone program access_too r_too tasks_too w_too o owners vs behind_too lower_too s
+same_alone program access r tasks w behind lower access_too r_too tasks_too w_too behind_too lower_too a b c d e f o owners vs s alone =
+    subst (λ (n : ℕ). LeftAlone program n r_too tasks_too w_too o owners vs behind_too lower_too s) (sym a)
+    (subst (λ (n : ℕ). LeftAlone program access n tasks_too w_too o owners vs behind_too lower_too s) (sym b)
+    (subst (λ (ts : List Task). LeftAlone program access r ts w_too o owners vs behind_too lower_too s) (sym c)
+    (subst (λ (view : View). LeftAlone program access r tasks view o owners vs behind_too lower_too s) (sym d)
+    (subst (λ (k : Control). LeftAlone program access r tasks w o owners vs k lower_too s) (sym e)
+    (subst (λ (ms : List Master). LeftAlone program access r tasks w o owners vs behind ms s) (sym f) alone)))))
 
 -- Putting components of an object aside alters no more than what a step may.
 alters_aside : (owners : List ℕ) (heap : List Object) (e : Event) (o : Id) (x : Object) → object_at heap o ≡ Some x → Alters heap e (blanked (hiding owners o) heap)
@@ -184,7 +196,7 @@ module _
     may = frugal_too p tracks.0
 
     simple_so : is_simple_body p.types true c.b ≡ true
-    simple_so = simple_with p.types (adjusts_alone p) c.b tracks.1
+    simple_so = simple_with p.types true c.b tracks.1
 
     thrifty : is_thrifty_body (simple_allowance p.types) c.b ≡ true
     thrifty = simple_thrifty (simple_allowance p.types) c.b simple_so
@@ -295,35 +307,115 @@ module _
     awaited : WaitsFor p.types o c.of (begins c.by c.done) c.tasks k behind
     awaited = (c.part, refl)
 
-    -- What lies beside the record is left alone, where that record has other parts: its body frees nothing then, and reaches no more than the record.
-    alone_or_beside : LeavesAlone w owners real
-    alone_or_beside = by (adjusts_alone p) refl
-      where
-        one_part : adjusts_alone p ≡ true → part_count p.types r ≤ 1
-        one_part alone_there = go (slice_get p.types r) refl
-          where
-            go : (t : Option TypeForm) → slice_get p.types r ≡ t → part_count p.types r ≤ 1
-            go None is = let none : part_count p.types r ≡ 0 = ap (λ (d : Option TypeForm). count_said (finalization_in d)) is in omega (arith, none)
-            go (Some t) is =
-                let count : part_count p.types r ≡ count_said (finalization_in (Some t)) = ap (λ (d : Option TypeForm). count_said (finalization_in d)) is in
-                let most = one_most (finalization_in (Some t)) (passed_at (λ d. has_one_part (finalization_in (Some d))) p.types r t alone_there is) in
-                omega (arith, count, most)
+    -- What is left of the adjustment, and the original.
+    abbrev LeftOf : List TypeForm → Type 0
+    LeftOf types =
+        (l : CopyLeft types x.cell.access r (performs c.of c.part ∷ c.tasks))
+        × AreCopied types s.heap o r l.first (owners_left types x.cell.access (performs c.of c.part ∷ c.tasks)) x.cell.values
 
-        record_components_so : reached_components p.types components.object.0 ≡ record_components p.types lies.placed.record_type
-        record_components_so = formal_components program well lies.placed.record_type c.of lies.placed.numbered c.by c.number c.b c.there c.called components.object components.formal
+    both : LeftOf p.types
+    both = subst LeftOf known_types (c.to.left, c.to.copied)
 
-        beside_record : LieBeside w (reaches_record p.types components.object) (is_one_of owners)
-        beside_record d reached =
-            let less : d < count_found (reached_components p.types components.object.0) = ltb-true d (count_found (reached_components p.types components.object.0)) reached in
-            not_one owners (w.base + d)
-            (copy_beside program well tracks.0 a rest s gs v k IsOperated e after c filled d
-            (subst (λ (found : Option (List ComponentKind)). d < count_found found) record_components_so less))
+    abbrev l : CopyLeft p.types x.cell.access r (performs c.of c.part ∷ c.tasks)
+    l = both.0
 
-        by : (alone_there : Bool) → adjusts_alone p ≡ alone_there → LeavesAlone w owners real
-        by true is = inl (alone_left program well x.cell.access r c.of c.part c.tasks left (one_part is))
-        by false is =
-            let forms = confined_body p well c.number c.b c.there w.tracks components (subst (λ (free : Bool). is_simple_body p.types free c.b ≡ true) is tracks.1) in
-            inr (reaches_record p.types components.object, beside_record, record { control = ((forms.declarations, forms.statements, forms.handlers), tt); operands = tt })
+    abbrev own_lies : PartWithin p.types x.cell.access r l.first l.part c.of c.part
+    own_lies = called_record program well x.cell.access r c.of c.part c.tasks l
+
+    -- What lies beside the record is left alone: its body reaches no more than the record.
+    record_components_so : reached_components p.types components.object.0 ≡ record_components p.types lies.placed.record_type
+    record_components_so = formal_components program well lies.placed.record_type c.of lies.placed.numbered c.by c.number c.b c.there c.called components.object components.formal
+
+    beside_record : LieBeside w (reaches_record p.types components.object) (is_one_of owners)
+    beside_record d reached =
+        let less : d < count_found (reached_components p.types components.object.0) = ltb-true d (count_found (reached_components p.types components.object.0)) reached in
+        not_one owners (w.base + d)
+        (copy_beside program well tracks.0 a rest s gs v k IsOperated e after c filled d
+        (subst (λ (found : Option (List ComponentKind)). d < count_found found) record_components_so less))
+
+    -- That lies in the copy.
+    within_record : LieWithin w (reaches_record p.types components.object) l.first (count_found (record_components p.types r))
+    within_record d reached =
+        let rows = copied_in_order p well (order_too p tracks.0) in
+        let less : d < count_found (reached_components p.types components.object.0) = ltb-true d (count_found (reached_components p.types components.object.0)) reached in
+        let same = formal_components program well own_lies.placed.record_type c.of own_lies.placed.numbered c.by c.number c.b c.there c.called components.object components.formal in
+        let below : d < count_found (record_components p.types own_lies.placed.record_type) = subst (λ (found : Option (List ComponentKind)). d < count_found found) same less in
+        let inside = walked_sizes p.types rows r own_lies.before own_lies.count own_lies.placed.record_type own_lies.walks in
+        let begins : c.p.first ≡ own_lies.placed.base = called_begins program well x.cell.access r c.of c.part c.tasks l s.heap filled o x c.to.found refl c.p c.state in
+        let first = own_lies.first_so in
+        (omega (arith, begins, first), omega (arith, begins, first, inside, below))
+
+    -- It reaches neither the original, if that lies in another object: its type has a part of the type of this Adjust, too.
+    module _ (origin : CopiedFrom p.types s.heap o r l.first owners x.cell.values) (ne : origin.source ≢ o) where
+      abbrev around : ℕ
+      around = origin.object.cell.access
+
+      original_operable : IsOperable p.types around c.of (origin.part + own_lies.count)
+      original_operable = (
+        placed own_lies.placed.record_type c.of (origin.first + own_lies.before) (origin.part + own_lies.count) own_lies.placed.numbered
+            (walks_to p.types (object_named p.types (Some around)) (Some r) (Some own_lies.placed.record_type) origin.first origin.part own_lies.before own_lies.count
+            (origin.lies.1 (l.sees.counts l.of l.numbered)) own_lies.walks),
+        (called_operable program well x.cell.access r c.of c.part c.tasks l).1,
+      )
+
+      original_shunned : body_shuns p.types (is_around around) (bare_apart program) c.b ≡ true
+      original_shunned =
+          shuns_around program well spares_adjusted spares_own around c.of (origin.part + own_lies.count) c.number original_operable
+          (adjust_called c.by (operations_of program.types.items c.of) c.number c.copies c.called) c.b c.there true simple_so
+
+      original_ghost : (accessed : Bool) → is_access p.types around ≡ accessed → (q : Id) → is_this origin.source q ≡ true
+          → IsGhost p.types (is_around around) (not accessed && is_this origin.source q) (object_at s.heap q)
+      original_ghost true is q same = record {
+        object = origin.object;
+        there = subst (λ (u : Id). object_at s.heap u ≡ Some origin.object) (id_is origin.source q (is_same origin.source.0 q.0 same)) origin.found;
+        shunned = eq_self around;
+        accessed = is;
+      }
+      original_ghost false is q same = rw same (record {
+        object = origin.object;
+        there = subst (λ (u : Id). object_at s.heap u ≡ Some origin.object) (id_is origin.source q (is_same origin.source.0 q.0 same)) origin.found;
+        declared = is;
+      })
+
+      original_low : AreLow (is_this origin.source) s.masters s.heap
+      original_low q y is found listed =
+          let stored = stored_unblanked (hiding (owners_left (known_in program a.procedure gs).program.types x.cell.access (performs c.of c.part ∷ c.tasks)) o) s.heap c.to.works.stored in
+          let below = home_low s.heap s.masters q stored y found (listed_out q y found listed stored) in
+          omega (arith, below)
+
+      original_shuns : Shunned program origin.source behind s.masters real
+      original_shuns = record {
+        around = around;
+        unnamed = λ q. not (is_access p.types around) && is_this origin.source q;
+        reaching =
+            operation_reaches p (is_around around) (bare_apart program) (is_this origin.source) (λ q. not (is_access p.types around) && is_this origin.source q) c.number c.b
+            (Part o place) behind (record s { activations = a ∷ rest; mode = Running }) c.there original_shunned (original_ghost (is_access p.types around) refl)
+            (λ q is. (and_parts (not (is_access p.types around)) (is_this origin.source q) is).1) original_low
+            (apart_is origin.source.0 o.0 (λ same. ne (id_is origin.source o same)));
+      }
+
+    -- So what is put aside is left alone.
+    aside_by : AreCopied p.types s.heap o r l.first owners x.cell.values → LeavesAlone program w o r l.first owners x.cell.values behind s.masters real
+    aside_by (inl none) = inl none
+    aside_by (inr origin) =
+        let forms = confined_body p well c.number c.b c.there w.tracks components simple_so in
+        inr (record {
+          reaches = reaches_record p.types components.object;
+          beside = beside_record;
+          within = within_record;
+          confined = record { control = ((forms.declarations, forms.statements, forms.handlers), tt); operands = tt };
+          copied = origin;
+          original = elim (same_id origin.source o) [ inl itself ↦ inl itself | inr ne ↦ inr (ne, original_shuns origin ne) ];
+        })
+
+    left_alone : LeftAlone program x.cell.access r c.tasks w o owners x.cell.values behind s.masters real
+    left_alone = (
+      left_called p.types x.cell.access r (performs c.of c.part ∷ c.tasks) l c.of c.part refl,
+      subst (λ (to : ℕ). LeavesAlone program w o r to owners x.cell.values behind s.masters real)
+          (sym (called_first p.types x.cell.access r (performs c.of c.part ∷ c.tasks) l c.of c.part refl))
+          (aside_by (copied_fewer p.types s.heap o r l.first (owners_left p.types x.cell.access (performs c.of c.part ∷ c.tasks)) owners x.cell.values
+          (λ d has. Contains-append_right (part_owners p.types x.cell.access (record { of = c.of; number = c.part })) owners d has) both.1)),
+    )
 
     -- So it begins.
     begins_so :
@@ -352,15 +444,13 @@ module _
           owners = owners;
           adjusting = f.adjusting;
           same = f.object_is;
-          left =
-              same_left p.types x.cell.access r f.adjusting.access f.adjusting.record_type c.tasks f.adjusting.tasks f.access_is f.record_is f.left_is
-              (called_left program well x.cell.access r c.of c.part c.tasks left);
           owned =
               sym (ap (λ (access : ℕ). owners_left p.types access f.adjusting.tasks) f.access_is ∙ ap (λ (ts : List Task). owners_left p.types x.cell.access ts) f.left_is);
           x = x;
           found = c.to.found;
-          named = copy_names_left program well tracks.0 a rest s gs v k IsOperated e after c filled;
-          leaves_alone = subst (λ (view : View). LeavesAlone view owners real) (sym f.view_is) alone_or_beside;
+          left =
+              same_alone program x.cell.access r c.tasks w behind s.masters f.adjusting.access f.adjusting.record_type f.adjusting.tasks f.adjusting.w
+              f.adjusting.behind f.adjusting.lower f.access_is f.record_is f.left_is f.view_is f.behind_is f.lower_is o owners x.cell.values real left_alone;
           sparing =
               same_sparing program o x.cell.access behind s.masters f.adjusting.w.object f.adjusting.access f.adjusting.behind f.adjusting.lower
               (ap (λ (view : View). view.object) f.view_is) f.access_is f.behind_is f.lower_is real looks_elsewhere;

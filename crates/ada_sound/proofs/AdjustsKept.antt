@@ -18,8 +18,8 @@ use Rattle.ada_tracked.specs.Frames.{View, watched, blank_object, blanked, value
 use Rattle.ada_tracked.proofs.Heaps.{blanked_here, on_there}
 use Rattle.ada_sound.proofs.Objects.{set_here}
 use Rattle.ada_typed.proofs.Parts.{shown_shapes}
-use Rattle.ada_sound.proofs.CopiedOwners.{CopyLeft, NameThere, hiding, owners_left, owners_numbered}
-use Rattle.ada_sound.proofs.CopyParts.{left_called, left_picked, owners_skipped, same_hidden, same_named}
+use Rattle.ada_sound.proofs.CopiedOwners.{AreCopied, CopyLeft, NameThere, hiding, owners_left, owners_numbered}
+use Rattle.ada_sound.proofs.CopyParts.{called_first, left_called, left_picked, owners_skipped, picked_first, same_copied, same_hidden, same_named}
 use Rattle.ada_sound.proofs.Invariant.{AdjustsAside, AdjustsTo, Control, Known, Rooms, RunsOn, Working}
 
 -- An object changes in what is not hidden of it: so it does where components are.
@@ -36,16 +36,30 @@ pub adjusts_set :
     (known : Known) (heap : List Object) (places : List Value) (ms : List Master) (o : Id) (x y : Object) → object_at heap o ≡ Some x
     → y.cell.access ≡ x.cell.access → y.stage ≡ x.stage
     → ((owners : List ℕ) → NameThere heap (values_at owners x.cell.values) → NameThere (slice_set heap o.0 y) (values_at owners y.cell.values))
+    → ((r to : ℕ) (owners : List ℕ) → AreCopied known.program.types heap o r to owners x.cell.values
+    → AreCopied known.program.types (slice_set heap o.0 y) o r to owners y.cell.values)
     → ((owners : List ℕ) (more : Rooms → Holds → Type 0)
     → Working known (blanked (hiding owners o) heap) places ms more → Working known (blanked (hiding owners o) (slice_set heap o.0 y)) places ms more)
     → (v : Value) (tasks : List Task) (k : Control) → v ≡ Names o → AdjustsTo known v tasks k heap places ms → AdjustsTo known v tasks k (slice_set heap o.0 y) places ms
-adjusts_set known heap places ms o x y found same stage names works v tasks k is to =
+adjusts_set known heap places ms o x y found same stage names copied works v tasks k is to =
     let this : to.o ≡ o = let own = to.is in cc (own, is) in
     let one : to.x ≡ x = let at_o = to.found in cc (rw this at at_o, found) in
     let owners = owners_left known.program.types x.cell.access tasks in
     let more : Rooms → Holds → Type 0 = λ rooms holds. RunsOn known k rooms holds × AdjustsAside known x.cell.access to.record_type holds in
     let before : Working known (blanked (hiding owners o) heap) places ms more = rw (this, one) at to.works in
     let there = rw one at to.named in
+    let both_so : (left : CopyLeft known.program.types to.x.cell.access to.record_type tasks)
+    × AreCopied known.program.types heap to.o to.record_type left.first (owners_left known.program.types to.x.cell.access tasks) to.x.cell.values =
+    (to.left, to.copied) in
+    let left_so : (left : CopyLeft known.program.types x.cell.access to.record_type tasks)
+    × AreCopied known.program.types heap to.o to.record_type left.first (owners_left known.program.types x.cell.access tasks) x.cell.values =
+    rw one at both_so in
+    let copied_so = copied to.record_type left_so.0.first owners (rw this at left_so.1) in
+    let left_now : (left : CopyLeft known.program.types y.cell.access to.record_type tasks)
+    × AreCopied known.program.types (slice_set heap o.0 y) o to.record_type left.first (owners_left known.program.types y.cell.access tasks) y.cell.values =
+    subst (λ (access : ℕ). (left : CopyLeft known.program.types access to.record_type tasks)
+    × AreCopied known.program.types (slice_set heap o.0 y) o to.record_type left.first (owners_left known.program.types access tasks) y.cell.values) (sym same)
+    (left_so.0, copied_so) in
     record {
       o = o;
       is = is;
@@ -53,7 +67,8 @@ adjusts_set known heap places ms o x y found same stage names works v tasks k is
       found = set_here heap o.0 x y found;
       there = rw (stage, ← one) to.there;
       record_type = to.record_type;
-      left = subst (λ (access : ℕ). CopyLeft known.program.types access to.record_type tasks) (sym same) (rw one at to.left);
+      left = left_now.0;
+      copied = left_now.1;
       named = subst (λ (access : ℕ). NameThere (slice_set heap o.0 y) (values_at (owners_left known.program.types access tasks) y.cell.values)) (sym same) (names owners there);
       works =
           subst (λ (access : ℕ).
@@ -76,6 +91,10 @@ adjusts_skipped known v of part tasks k heap places ms none to =
       there = to.there;
       record_type = to.record_type;
       left = left_called known.program.types access to.record_type (performs of part ∷ tasks) to.left of part refl;
+      copied =
+          subst (λ (first : ℕ). AreCopied known.program.types heap to.o to.record_type first (owners_left known.program.types access tasks) to.x.cell.values)
+          (sym (called_first known.program.types access to.record_type (performs of part ∷ tasks) to.left of part refl))
+          (subst (λ (owners : List ℕ). AreCopied known.program.types heap to.o to.record_type to.left.first owners to.x.cell.values) same to.copied);
       named = subst (λ (owners : List ℕ). NameThere heap (values_at owners to.x.cell.values)) same to.named;
       works =
           subst (λ (owners : List ℕ).
@@ -96,6 +115,13 @@ module _ (program : Program) (well : IsWellFormed (program_form program)) where
       → NameThere heap (values_at (owners_left types access (taken (shown_shapes types) PartsFirst tasks i)) vs)
   picked_named types same access r tasks left i ready heap vs there = rw same (same_named program well access r tasks (rw same at left) i ready heap vs (rw same at there))
 
+  picked_copied :
+      (types : List TypeForm) → types ≡ (program_form program).types → (access r : ℕ) (tasks : List Task) → CopyLeft types access r tasks → (i : ℕ) → IsOpen tasks i
+      → (heap : List Object) (o : Id) (to : ℕ) (vs : List Value) → AreCopied types heap o r to (owners_left types access tasks) vs
+      → AreCopied types heap o r to (owners_left types access (taken (shown_shapes types) PartsFirst tasks i)) vs
+  picked_copied types same access r tasks left i ready heap o to vs copied =
+      rw same (same_copied program well access r tasks (rw same at left) i ready heap o to vs (rw same at copied))
+
   pub adjusts_picked :
       (known : Known) → known.program.types ≡ (program_form program).types → (v : Value) (tasks : List Task) (i : ℕ) (k : Control) (heap : List Object)
       (places : List Value) (ms : List Master) → IsOpen tasks i → AdjustsTo known v tasks k heap places ms
@@ -111,6 +137,10 @@ module _ (program : Program) (well : IsWellFormed (program_form program)) where
         there = to.there;
         record_type = to.record_type;
         left = left_picked types access to.record_type tasks to.left i ready;
+        copied =
+            subst (λ (first : ℕ). AreCopied types heap to.o to.record_type first (owners_left types access (taken (shown_shapes types) PartsFirst tasks i)) to.x.cell.values)
+            (sym (picked_first types access to.record_type tasks to.left i ready))
+            (picked_copied types same access to.record_type tasks to.left i ready heap to.o to.left.first to.x.cell.values to.copied);
         named = picked_named types same access to.record_type tasks to.left i ready heap to.x.cell.values to.named;
         works =
             subst (λ (objects : List Object). Working known objects places ms (λ rooms holds. RunsOn known k rooms holds × AdjustsAside known access to.record_type holds))

@@ -137,7 +137,7 @@ module _ (known : Known) (k : Control) (a : Activation Value) (rest : List (Acti
             (record_raises known v (Fills items ∷ k) w.rooms w.holds path.of_record path.selectors
             (λ is. object_there path.root path.spot kept (root_object known.program.types known.program.variables path there.to there.leads is) w.fit)
             (next_raises known s.heap a.places (item_of_record p) items k a.operands w.rooms w.holds w.rest)),
-        (there.kinds, there.components, copies_on known s.heap a.places p there.kinds items k a.operands w.rooms w.holds there.components w.rest),
+        ((λ v. tt), (there.kinds, there.components, copies_on known s.heap a.places p there.kinds items k a.operands w.rooms w.holds there.components w.rest)),
       )) (root_follows path.root path.spot kept w.fit)
 
   -- The path of a record that is copied is not lost.

@@ -16,7 +16,7 @@ use Rattle.ada_quiet.proofs.FrugalAt.{frugal_called, operation_at}
 use Rattle.ada_quiet.proofs.QuietFrugal.{frugal_body}
 use Rattle.ada_quiet.specs.Apart.{is_bare_item}
 use Rattle.ada_quiet.specs.Frugal.{Thrift, assigns_at_hand, are_frugal_declarations, is_frugal_stmt, are_frugal, are_frugal_branches, are_frugal_handlers, is_frugal_body, is_frugal_operation, thrift_of, called_by, frugal_procedures, is_inert, is_copied}
-use Rattle.ada_quiet.specs.InUse.{adjusts_alone, adjusts_nothing, may_adjust_frugally, may_be_frugal, may_track, operations_may_be_called, uses_adjust, uses_called_adjust, uses_finalize, uses_initialize, uses_operations}
+use Rattle.ada_quiet.specs.InUse.{adjusts_nothing, may_adjust_frugally, may_be_frugal, may_track, operations_may_be_called, uses_adjust, uses_called_adjust, uses_finalize, uses_initialize, uses_operations}
 use Rattle.ada_quiet.specs.Quiet.{has_access, operation_body, is_plain_body, is_plain_operation, is_quiet_body, is_quiet_operation}
 use Rattle.ada_quiet.specs.Simple.{is_simple_body, is_simple_operation}
 use Rattle.ada_sound.proofs.FrugalBodies.{frugal_parts}
@@ -199,9 +199,9 @@ module _ (p : ProgramForm) where
   freely_inside o (inr frugal) = frugal_inside o (and_parts (may_adjust_frugally p) (is_frugal_operation p o) frugal).1
 
   called_inside : (o : Option ProcedureNo) (owns : Bool)
-      → (if owns then may_track p && is_simple_operation p (adjusts_alone p) o else (is_quiet_operation p o || (may_adjust_frugally p && is_frugal_operation p o))) ≡ true
+      → (if owns then may_track p && is_simple_operation p true o else (is_quiet_operation p o || (may_adjust_frugally p && is_frugal_operation p o))) ≡ true
       → operation_assigns_inside p inside_formals frugally_called o ≡ true
-  called_inside o true uses = simple_inside (adjusts_alone p) o (and_parts (may_track p) (is_simple_operation p (adjusts_alone p) o) uses).1
+  called_inside o true uses = simple_inside true o (and_parts (may_track p) (is_simple_operation p true o) uses).1
   called_inside o false uses = freely_inside o (or_cases (is_quiet_operation p o) (may_adjust_frugally p && is_frugal_operation p o) uses)
 
   adjust_inside : (owns : Bool) (o : Option ProcedureNo) → uses_adjust p owns o ≡ true → operation_assigns_inside p inside_formals frugally_called o ≡ true

@@ -1,4 +1,4 @@
--- A simple body that frees nothing (7.6) reaches no more than the record that its formal parameter is: each path from that begins with a component of the record.
+-- A simple body (7.6) reaches no more than the record that its formal parameter is: each path from that begins with a component of the record.
 
 use Rattle.std.proofs.Common.{◌≡◌, ℕ, zero, suc, ◌<◌, Bool, true, false, List, [], ◌∷◌, drop, refl, sym, ap, ◌∙◌, subst}
 use Rattle.std.specs.Prelude.{nat_lt, Option, Some, None, is_some}
@@ -13,7 +13,7 @@ use Rattle.ada_program.specs.declared.program.VariableKind.{VariableKind}
 use Rattle.ada_program.specs.declared.program.VariableKind.TheVariants as variable
 use Rattle.ada_program.specs.Form.{PathForm, RecordPathForm, ExpressionForm, integer, boolean, reads, is_null, applied_to, chained, LinksForm, no_more_links, a_link, ItemForm, null_item, item_of_path, item_of_value, item_of_record, RightForm, nothing, value_of, allocates, allocates_default, computes, DeclarationForm, creates_pool, collects, declares, declares_record, StmtForm, skips, assigns, assigns_record, frees, gets, writes, writes_text, chooses, repeats, counts, exits, calls, returns, raises, encloses, StmtsForm, no_stmts, a_stmt, BranchesForm, otherwise, a_branch, HandlersForm, no_handlers, a_handler}
 use Rattle.ada_program.specs.ProgramForm.{TypeForm, VariableForm, BodyForm, ProgramForm, seen_by}
-use Rattle.ada_program.specs.WellFormed.{IsWellFormed, is_record_path, variable_kind, root_kind, selectors_kind, path_kind, scalar_of, value_access, kind_among, is_this, binary_type, type_of, chain_type, has_type, condition_fits, first_fits, item_fits, item_width, items_fit, is_filled, access_fits, scalar_fits, right_fits, reached_components, initial_fits, declarations_fit, Profile, callable_in, statement_fits, stmts_fit, branches_fit, handlers_fit, record_components, record_fits}
+use Rattle.ada_program.specs.WellFormed.{IsWellFormed, is_freed_by, path_access, is_record_path, variable_kind, root_kind, selectors_kind, path_kind, scalar_of, value_access, kind_among, is_this, binary_type, type_of, chain_type, has_type, condition_fits, first_fits, item_fits, item_width, items_fit, is_filled, access_fits, scalar_fits, right_fits, reached_components, initial_fits, declarations_fit, Profile, callable_in, statement_fits, stmts_fit, branches_fit, handlers_fit, record_components, record_fits}
 use Rattle.ada_flow.specs.Tracking.{Tracks}
 use Rattle.ada_judged.specs.Fitting.{TracksComponents}
 use Rattle.ada_tracked.specs.Simple.{IsFrom}
@@ -24,7 +24,7 @@ use Rattle.ada_typed.proofs.Bodies.{SeenFits, seen_fits, seen_as}
 use Rattle.ada_typed.proofs.Operators.{typed, unary_operand, binary_operand, chain_left}
 use Rattle.ada_sound.proofs.OnlyRows.{kind_below}
 use Rattle.ada_sound.proofs.OperationStarts.{apart}
-use Rattle.ada_sound.proofs.OrderlyBodies.{access_value, is_value, path_from, record_leads, record_within, right_value, scalar_value, tested_there, this_there, value_there, variable_orderly}
+use Rattle.ada_sound.proofs.OrderlyBodies.{access_value, freed_there, is_value, path_from, record_leads, record_within, right_value, scalar_value, tested_there, this_there, value_there, variable_orderly}
 use Rattle.ada_sound.proofs.Roots.{none_behind}
 
 -- A component that is there is one of so many.
@@ -68,6 +68,10 @@ module _ (types : List TypeForm) (tracks : Tracks) (own : List VariableForm) (tr
   -- So is one that leads to a value of an access type.
   access_confined : (access : ℕ) (path : PathForm) → is_this access (value_access (path_kind types own path)) ≡ true → PathIsConfined tracks.first reaches path
   access_confined access path is = path_confined path (access_value (path_kind types own path) (this_there access (value_access (path_kind types own path)) is))
+
+  -- So is one that leads to what is freed (13.11.2).
+  freed_confined : (access : ℕ) (path : PathForm) → is_freed_by types access (path_access types own path) ≡ true → PathIsConfined tracks.first reaches path
+  freed_confined access path is = path_confined path (access_value (path_kind types own path) (freed_there types access (path_access types own path) is))
 
   -- Expressions (4.4).
   mutual
@@ -179,7 +183,7 @@ module _ (types : List TypeForm) (tracks : Tracks) (own : List VariableForm) (tr
   -- Statements (5.1).
   module _ (texts exceptions : List (List ℕ)) (callable : List Profile) where
     mutual
-      statement_confined : (inside : Bool) (f : StmtForm) → statement_fits types own texts exceptions callable inside f ≡ true → is_simple_stmt types false f ≡ true → StatementIsConfined tracks.first reaches f
+      statement_confined : (inside : Bool) (f : StmtForm) → statement_fits types own texts exceptions callable inside f ≡ true → is_simple_stmt types true f ≡ true → StatementIsConfined tracks.first reaches f
       statement_confined inside skips fit simple = tt
       statement_confined inside (assigns target right) fit simple =
           let fits = (apart _ _ fit).0 in
@@ -188,7 +192,7 @@ module _ (types : List TypeForm) (tracks : Tracks) (own : List VariableForm) (tr
           let two = apart (is_record_path types own target) (record_fits types own target.record_type items) fit in
           let filled = (apart _ _ (apart _ _ two.1).0).0 in
           (record_confined target two.0, filled_confined (record_components types target.record_type) items filled)
-      statement_confined inside (frees access path) fit simple = absurd (cc simple)
+      statement_confined inside (frees access path) fit simple = freed_confined access path (apart _ _ fit).0
       statement_confined inside (gets target) fit simple =
           let number = typed Integer (scalar_of (path_kind types own target)) fit in
           path_confined target (scalar_value (path_kind types own target) Integer number)
@@ -217,14 +221,14 @@ module _ (types : List TypeForm) (tracks : Tracks) (own : List VariableForm) (tr
           let firsts = apart _ _ simples.0 in
           (declarations_confined ds fronts.0 firsts.0, statements_confined inside fs fronts.1 firsts.1, handlers_confined inside hs fits.1 simples.1)
 
-      statements_confined : (inside : Bool) (fs : StmtsForm) → stmts_fit types own texts exceptions callable inside fs ≡ true → are_simple types false fs ≡ true → StatementsAreConfined tracks.first reaches fs
+      statements_confined : (inside : Bool) (fs : StmtsForm) → stmts_fit types own texts exceptions callable inside fs ≡ true → are_simple types true fs ≡ true → StatementsAreConfined tracks.first reaches fs
       statements_confined inside no_stmts fit simple = tt
       statements_confined inside (a_stmt f fs) fit simple =
           let fits = apart _ _ fit in
           let simples = apart _ _ simple in
           (statement_confined inside f fits.0 simples.0, statements_confined inside fs fits.1 simples.1)
 
-      branches_confined : (inside : Bool) (branches : BranchesForm) → branches_fit types own texts exceptions callable inside branches ≡ true → are_simple_branches types false branches ≡ true → BranchesAreConfined tracks.first reaches branches
+      branches_confined : (inside : Bool) (branches : BranchesForm) → branches_fit types own texts exceptions callable inside branches ≡ true → are_simple_branches types true branches ≡ true → BranchesAreConfined tracks.first reaches branches
       branches_confined inside (otherwise fs) fit simple = statements_confined inside fs fit simple
       branches_confined inside (a_branch e fs branches) fit simple =
           let fits = apart _ _ fit in
@@ -232,7 +236,7 @@ module _ (types : List TypeForm) (tracks : Tracks) (own : List VariableForm) (tr
           let simples = apart _ _ simple in
           (typed_confined Boolean e fronts.0, statements_confined inside fs fronts.1 simples.0, branches_confined inside branches fits.1 simples.1)
 
-      handlers_confined : (inside : Bool) (hs : HandlersForm) → handlers_fit types own texts exceptions callable inside hs ≡ true → are_simple_handlers types false hs ≡ true → HandlersAreConfined tracks.first reaches hs
+      handlers_confined : (inside : Bool) (hs : HandlersForm) → handlers_fit types own texts exceptions callable inside hs ≡ true → are_simple_handlers types true hs ≡ true → HandlersAreConfined tracks.first reaches hs
       handlers_confined inside no_handlers fit simple = tt
       handlers_confined inside (a_handler choices fs hs) fit simple =
           let fits = apart _ _ fit in
@@ -246,10 +250,10 @@ pub record FormsAreConfined (types : List TypeForm) (tracks : Tracks) (object : 
   pub statements : StatementsAreConfined tracks.first (reaches_record types object) b.statements
   pub handlers : HandlersAreConfined tracks.first (reaches_record types object) b.handlers
 
--- In a well-formed program those of a simple body that frees nothing are so, if it tracks components of its formal parameter.
+-- In a well-formed program those of a simple body are so, if it tracks components of its formal parameter.
 pub confined_body :
     (p : ProgramForm) → IsWellFormed p → (number : ℕ) (b : BodyForm) → slice_get p.bodies number ≡ Some b → (tracks : Tracks)
-    → (tracking : TracksComponents p.types tracks b.variables) → is_simple_body p.types false b ≡ true → FormsAreConfined p.types tracks tracking.object b
+    → (tracking : TracksComponents p.types tracks b.variables) → is_simple_body p.types true b ≡ true → FormsAreConfined p.types tracks tracking.object b
 confined_body p well number b there tracks tracking is =
     let own = seen_by number b p in
     let fit : SeenFits own = subst SeenFits (seen_as p number b there) (seen_fits p well (Some number)) in

@@ -1,6 +1,6 @@
 -- Records that are copied as items: each of their components counts as an item of its own, which is what it holds at first.
 
-use Rattle.std.proofs.Common.{◌≡◌, ℕ, ◌==◌, Bool, true, false, not, ◌&&◌, ◌||◌, List, [], ◌∷◌, ◌++◌, length, map, drop, refl, sym, ap, ◌∙◌, arith, inl, inr}
+use Rattle.std.proofs.Common.{◌≡◌, ℕ, ◌==◌, Bool, true, false, not, ◌&&◌, ◌||◌, List, [], ◌∷◌, ◌++◌, length, map, take, drop, reverse, refl, sym, ap, subst, ◌∙◌, arith, inl, inr}
 use Rattle.std.specs.Prelude.{Option, Some, None}
 use Rattle.std.specs.List.{list_all, list_any}
 use Rattle.std.proofs.lemmas.Bool.{eqb-true, not-true}
@@ -20,10 +20,11 @@ use Rattle.ada_meaning.specs.declared.state.Value.{Value}
 use Rattle.ada_meaning.specs.Frame.{Creates, StoresRecord, DeclaresRecord}
 use Rattle.ada_meaning.specs.Step.{in_front}
 use Rattle.ada_meaning.specs.Named.{Object}
+use Rattle.ada_meaning.proofs.Defaults.{taken_back}
 use Rattle.ada_typed.proofs.Parts.{shown_number}
 use Rattle.ada_sound.proofs.Raising.{or_right}
 use Rattle.ada_sound.proofs.Followings.{kept_apart}
-use Rattle.ada_sound.proofs.CopiedOwners.{NameThere, names_in_front}
+use Rattle.ada_sound.proofs.CopiedOwners.{NameThere, Original, names_in_front}
 use Rattle.ada_sound.proofs.Invariant.{Known, Control, Rooms, InitialTo, NoneBroken, back_onto, named_of, ItemsKeep, FilledBy, Given, Filling, FillsTo, OwnNothing}
 
 -- What a component holds at first, as an item.
@@ -193,12 +194,12 @@ module _ (known : Known) (heap : List Object) (places : List Value) where
       (fill_one known heap places access count (default_item kind) (map default_item kinds ++ items) k operands v rooms holds (plain_filled kind v two.0) f)
 
   -- The components of a record are there.
-  pub copies_on : (p : RecordPathForm) (kinds : List ComponentKind) (items : List ItemForm) (k : Control) (operands : List Value) (rooms : Rooms) (holds : Holds) → record_components known.program.types p.record_type ≡ Some kinds → FillsTo known heap places (item_of_record p ∷ items) k operands rooms holds → (vs : List Value) → length vs ≡ length kinds → NameThere heap vs → FillsTo known heap places items k (in_front vs operands) rooms holds
-  copies_on p kinds items [] operands rooms holds is f vs as_many names = f
-  copies_on p kinds items (Creates access count ∷ k) operands rooms holds is f vs as_many names =
+  pub copies_on : (p : RecordPathForm) (kinds : List ComponentKind) (items : List ItemForm) (k : Control) (operands : List Value) (rooms : Rooms) (holds : Holds) → record_components known.program.types p.record_type ≡ Some kinds → FillsTo known heap places (item_of_record p ∷ items) k operands rooms holds → (vs : List Value) → length vs ≡ length kinds → NameThere heap vs → Original known.program.types heap p.record_type vs → FillsTo known heap places items k (in_front vs operands) rooms holds
+  copies_on p kinds items [] operands rooms holds is f vs as_many names original = f
+  copies_on p kinds items (Creates access count ∷ k) operands rooms holds is f vs as_many names original =
       filled_plain access count kinds items k vs operands rooms holds (rw is at (f.bare.0)) as_many (unrolled access count p kinds items k operands rooms holds is f)
-  copies_on p kinds items (StoresRecord o first count ∷ k) operands rooms holds is f vs as_many names = (give_next known heap places (item_of_record p) items k rooms holds f.0, f.1)
-  copies_on p kinds items (DeclaresRecord x t ∷ k) operands rooms holds is (giving, initial, recording) vs as_many names =
+  copies_on p kinds items (StoresRecord o first count ∷ k) operands rooms holds is f vs as_many names original = (give_next known heap places (item_of_record p) items k rooms holds f.0, f.1)
+  copies_on p kinds items (DeclaresRecord x t ∷ k) operands rooms holds is (giving, initial, recording) vs as_many names original =
       (give_next known heap places (item_of_record p) items k rooms holds giving, copied_first initial, recording)
     where
       copied_first : InitialTo known heap (item_of_record p ∷ items) operands t → InitialTo known heap items (in_front vs operands) t
@@ -208,8 +209,22 @@ module _ (known : Known) (heap : List Object) (places : List Value) where
           let same : p ≡ q = cc all in
           let last : items ≡ [] = cc all in
           let own : record_components known.program.types r ≡ Some kinds = rw (← of, ← same) is in
-          inr (r, first, inr (last, (kinds, own, rw (← as_many) (names_in_front heap vs operands names))))
-  copies_on p kinds items (f ∷ k) operands rooms holds is g vs as_many names = g
+          let front : reverse (take (length kinds) (in_front vs operands)) ≡ vs = ap (λ (n : ℕ). reverse (take n (in_front vs operands))) (sym as_many) ∙ taken_back vs operands in
+          let here : Original known.program.types heap r vs = subst (λ (u : ℕ). Original known.program.types heap u vs) (ap (λ (q : RecordPathForm). q.record_type) same ∙ of) original in
+          inr (
+            r,
+            first,
+            inr (
+              last,
+              (
+                kinds,
+                own,
+                rw (← as_many) (names_in_front heap vs operands names),
+                subst (λ (us : List Value). Original known.program.types heap r us) (sym front) here,
+              ),
+            ),
+          )
+  copies_on p kinds items (f ∷ k) operands rooms holds is g vs as_many names original = g
 
 -- Items that use no path that breaks a rule.
 pub items_keep : (types : List TypeForm) (spot : Spot) (target : Option PathForm) (holds : Holds) (earlier : List PathForm) (items : List ItemForm) → NoneBroken holds (uses_in_items types spot target earlier items) → ItemsKeep types spot target holds earlier items

@@ -1,6 +1,6 @@
 -- Records that are copied with components of access types, which the Adjusts of their controlled parts see to (7.6).
 
-use Rattle.std.proofs.Common.{◌≡◌, ℕ, zero, suc, ◌+◌, ◌<◌, true, false, List, [], ◌∷◌, length, take, drop, reverse, refl, arith}
+use Rattle.std.proofs.Common.{◌≡◌, ◌≢◌, ◌⊎◌, ℕ, zero, suc, ◌+◌, ◌<◌, ◌≤◌, true, false, List, [], ◌∷◌, length, take, drop, reverse, refl, arith}
 use mathlib.Core.List.{reverse_aux}
 use Rattle.std.specs.Prelude.{Some, flat_map}
 use Rattle.std.specs.List.{Contains, list_any, slice_get, slice_index_or}
@@ -15,6 +15,7 @@ use Rattle.ada_program.specs.declared.program.Finalization.{Finalization}
 use Rattle.ada_program.specs.declared.program.TypeNo.{TypeNo}
 use Rattle.ada_program.specs.ProgramForm.{PartForm, TypeForm, record_of}
 use Rattle.ada_program.specs.Walks.{Walks}
+use Rattle.ada_quiet.specs.InUse.{count_found}
 use Rattle.ada_program.specs.WellFormed.{finalization_of, is_inherited, object_named, parts_named, record_components}
 use Rattle.ada_flow.specs.Flow.{is_owning, is_owning_part, leaves_owners}
 use Rattle.ada_flow.specs.Tracking.{access_numbers}
@@ -24,10 +25,11 @@ use Rattle.ada_meaning.specs.declared.state.Id.{Id}
 use Rattle.ada_meaning.specs.declared.state.Value.{Value}
 use Rattle.ada_meaning.specs.declared.state.Value.TheVariants.{Names}
 use Rattle.ada_meaning.specs.Step.{in_front}
-use Rattle.ada_meaning.specs.Named.{Object}
+use Rattle.ada_meaning.specs.Named.{Object, object_at}
 use Rattle.ada_owners.specs.Keeping.{IsThere}
+use Rattle.ada_owners.specs.Places.{is_there}
 use Rattle.ada_tracked.specs.Frames.{View, shifted, number_at}
-use Rattle.ada_typed.specs.Holding.{WalksTo}
+use Rattle.ada_typed.specs.Holding.{PartsLie, WalksTo}
 use Rattle.ada_typed.proofs.Parts.{firsts_known, shown_number, shown_numbered, shown_parts, shown_shapes}
 use Rattle.ada_sound.proofs.OnlyParts.{IsControlled}
 
@@ -77,6 +79,56 @@ names_all heap (v ∷ vs) each = (each 0 v refl, names_all heap vs (λ c u at. e
 pub names_still : (heap after : List Object) (vs : List Value) → ((o : Id) → IsThere heap o → IsThere after o) → NameThere heap vs → NameThere after vs
 names_still heap after [] still there = tt
 names_still heap after (v ∷ vs) still there = ((λ o is. still o (there.0 o is)), names_still heap after vs still there.1)
+
+-- In objects that are known by one type, two records of this type begin at these components, and they are not one record: the controlled parts of the one are not
+-- those of the other (7.6).
+pub record LieApart (types : List TypeForm) (record_type first to : ℕ) : Type 0 where
+  pub access : ℕ
+  pub part : ℕ
+  pub other : ℕ
+  pub apart : part ≢ other
+  pub one_lies : PartsLie types (object_named types (Some access)) (Some record_type) first part
+  pub other_lies : PartsLie types (object_named types (Some access)) (Some record_type) to other
+
+-- A record of this type has these values: it lies in an object that is there, from a component on (3.8).
+pub record Original (types : List TypeForm) (heap : List Object) (record_type : ℕ) (vs : List Value) : Type 0 where
+  pub source : Id
+  pub first : ℕ
+  pub part : ℕ
+  pub object : Object
+  pub found : object_at heap source ≡ Some object
+  pub there : is_there object.stage ≡ true
+  pub lies : PartsLie types (object_named types (Some object.cell.access)) (Some record_type) first part
+  pub counted : length vs ≡ count_found (record_components types record_type)
+  pub holds : (d : ℕ) (v : Value) → slice_get vs d ≡ Some v → slice_get object.cell.values (first + d) ≡ Some v
+
+-- It is another one than that which begins at this component of an object (5.2).
+abbrev pub IsElsewhere : (types : List TypeForm) (heap : List Object) (record_type : ℕ) (vs : List Value) → Original types heap record_type vs → Value → (to : ℕ) → Type 0
+IsElsewhere types heap t vs original v to = v ≡ Names original.source → LieApart types t original.first to
+
+-- A component does not lie among so many from one on.
+abbrev pub LiesOutside : (to count component : ℕ) → Type 0
+LiesOutside to count c = (c < to) ⊎ (to + count ≤ c)
+
+-- A record of this type was copied to an object, from this component on (5.2, 7.6): what these of its components name, those of the original name, another record
+-- of the type, which lies in an object that is there. Where that is the same object, the original lies outside of the copy.
+pub record CopiedFrom (types : List TypeForm) (heap : List Object) (o : Id) (record_type to : ℕ) (owners : List ℕ) (vs : List Value) : Type 0 where
+  pub source : Id
+  pub first : ℕ
+  pub part : ℕ
+  pub object : Object
+  pub found : object_at heap source ≡ Some object
+  pub there : is_there object.stage ≡ true
+  pub lies : PartsLie types (object_named types (Some object.cell.access)) (Some record_type) first part
+  pub elsewhere : o ≡ source → LieApart types record_type first to
+  pub holds :
+      (d : ℕ) (p : Id) → Contains owners (to + d) → d < count_found (record_components types record_type)
+      → (o ≡ source → LiesOutside to (count_found (record_components types record_type)) (first + d)) → slice_get vs (to + d) ≡ Some (Names p)
+      → slice_get object.cell.values (first + d) ≡ Some (Names p)
+
+-- So it is, or no component is among these.
+abbrev pub AreCopied : List TypeForm → List Object → Id → (record_type to : ℕ) → (owners : List ℕ) → List Value → Type 0
+AreCopied types heap o t to owners vs = (owners ≡ []) ⊎ CopiedFrom types heap o t to owners vs
 
 -- A copy of a record begins so (7.6): as the initial value of an object that is declared, or as what a record gets that is assigned to.
 abbrev pub BeginsCopy : Birth → Type 0

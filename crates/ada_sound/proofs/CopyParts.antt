@@ -1,6 +1,6 @@
 -- What is left of the adjustment of a record that was copied (7.6), as parts are picked and called: which components are hidden, and what hiding depends on.
 
-use Rattle.std.proofs.Common.{◌≡◌, ℕ, zero, suc, List, [], ◌∷◌, ◌++◌, Option, Some, None, inl, inr, refl, sym, ap, ◌∙◌, subst, arith}
+use Rattle.std.proofs.Common.{◌≡◌, ◌+◌, ℕ, zero, suc, List, [], ◌∷◌, ◌++◌, Option, Some, None, inl, inr, refl, sym, ap, ◌∙◌, subst, arith}
 use Rattle.std.specs.Prelude.{flat_map}
 use Rattle.std.specs.List.{Contains, slice_get, slice_set, slice_index_or}
 use Rattle.std.specs.List.Sorted.{IsPermutation}
@@ -31,7 +31,7 @@ use Rattle.ada_finalized.proofs.Treated.{Treated, parts_from, none_in, cons_case
 use Rattle.ada_tracked.specs.Frames.{shifted, watched, blank_values, blank_object, blanked, values_at}
 use Rattle.ada_tracked.proofs.Lists.{set_here}
 use Rattle.ada_typed.proofs.Parts.{firsts_known, shown_shapes, shapes_shown}
-use Rattle.ada_sound.proofs.CopiedOwners.{NamesThere, NameThere, CopyLeft, owners_numbered, part_owners, owners_left, hiding}
+use Rattle.ada_sound.proofs.CopiedOwners.{AreCopied, NamesThere, NameThere, CopyLeft, owners_numbered, part_owners, owners_left, hiding}
 use Rattle.ada_sound.proofs.NoneHidden.{shifted_none}
 
 -- What comes first in a list is in it.
@@ -189,7 +189,7 @@ names_of heap (c ∷ bs) vs b has there =
     ]
 
 -- Where it is so of each, it is so of all.
-names_each :
+pub names_each :
     (heap : List Object) (bs : List ℕ) (vs : List Value) → ((b : ℕ) → Contains bs b → NamesThere heap (slice_index_or vs b Null)) → NameThere heap (values_at bs vs)
 names_each heap [] vs each = tt
 names_each heap (b ∷ bs) vs each = (each b (head_in b bs), names_each heap bs vs (λ c has. each c (tail_in b c bs has)))
@@ -197,6 +197,27 @@ names_each heap (b ∷ bs) vs each = (each b (head_in b bs), names_each heap bs 
 -- It is so of components that are among others of which it is so.
 pub names_alike : (heap : List Object) (bs cs : List ℕ) (vs : List Value) → HasAll bs cs → NameThere heap (values_at bs vs) → NameThere heap (values_at cs vs)
 names_alike heap bs cs vs each there = names_each heap cs vs (λ c has. names_of heap bs vs c (each c has) there)
+
+-- Fewer components are those of a copy, too.
+none_has : (cs : List ℕ) → HasAll [] cs → cs ≡ []
+none_has [] each = refl
+none_has (c ∷ cs) each = none_in c (each c (head_in c cs))
+
+pub copied_fewer :
+    (types : List TypeForm) (heap : List Object) (o : Id) (r to : ℕ) (bs cs : List ℕ) (vs : List Value) → HasAll bs cs → AreCopied types heap o r to bs vs
+    → AreCopied types heap o r to cs vs
+copied_fewer types heap o r to bs cs vs each (inl none) = inl (none_has cs (subst (λ (ds : List ℕ). HasAll ds cs) none each))
+copied_fewer types heap o r to bs cs vs each (inr copied) = inr (record {
+  source = copied.source;
+  first = copied.first;
+  part = copied.part;
+  object = copied.object;
+  found = copied.found;
+  there = copied.there;
+  lies = copied.lies;
+  elsewhere = copied.elsewhere;
+  holds = λ d p has. copied.holds d p (each (to + d) has);
+})
 
 -- In the end nothing is hidden.
 pub none_left : (types : List TypeForm) (access : ℕ) → owners_left types access [] ≡ []
@@ -249,6 +270,12 @@ left_picked types access r tasks l i ready = record {
 }
 
 -- It goes on where an operation is called.
+pub picked_first :
+    (types : List TypeForm) (access r : ℕ) (tasks : List Task) (l : CopyLeft types access r tasks) (i : ℕ) (ready : IsOpen tasks i)
+    → (left_picked types access r tasks l i ready).first ≡ l.first
+unfolding left_picked
+picked_first types access r tasks l i ready = refl
+
 pub left_called :
     (types : List TypeForm) (access r : ℕ) (tasks : List Task) → CopyLeft types access r tasks → (of part : ℕ) → next tasks ≡ Perform of part
     → CopyLeft types access r (performed tasks)
@@ -263,6 +290,18 @@ left_called types access r tasks l of part due = record {
   sees = l.sees;
   run = run_calls (shown_shapes types) PartsFirst of part l.run due;
 }
+
+pub called_first :
+    (types : List TypeForm) (access r : ℕ) (tasks : List Task) (l : CopyLeft types access r tasks) (of part : ℕ) (due : next tasks ≡ Perform of part)
+    → (left_called types access r tasks l of part due).first ≡ l.first
+unfolding left_called
+called_first types access r tasks l of part due = refl
+
+pub called_part :
+    (types : List TypeForm) (access r : ℕ) (tasks : List Task) (l : CopyLeft types access r tasks) (of part : ℕ) (due : next tasks ≡ Perform of part)
+    → (left_called types access r tasks l of part due).part ≡ l.part
+unfolding left_called
+called_part types access r tasks l of part due = refl
 
 module _ (program : Program) (well : IsWellFormed (program_form program)) where
   abbrev types : List TypeForm
@@ -340,3 +379,12 @@ module _ (program : Program) (well : IsWellFormed (program_form program)) where
   same_named access r tasks l i ready heap vs there =
       names_alike heap (owners_left types access tasks) (owners_left types access (taken (shown_shapes types) PartsFirst tasks i)) vs
       (hidden_before access r tasks l i ready) there
+
+  -- Nor do they come from elsewhere.
+  pub same_copied :
+      (access r : ℕ) (tasks : List Task) → CopyLeft types access r tasks → (i : ℕ) → IsOpen tasks i → (heap : List Object) (o : Id) (to : ℕ) (vs : List Value)
+      → AreCopied types heap o r to (owners_left types access tasks) vs
+      → AreCopied types heap o r to (owners_left types access (taken (shown_shapes types) PartsFirst tasks i)) vs
+  same_copied access r tasks l i ready heap o to vs copied =
+      copied_fewer types heap o r to (owners_left types access tasks) (owners_left types access (taken (shown_shapes types) PartsFirst tasks i)) vs
+      (hidden_before access r tasks l i ready) copied

@@ -34,7 +34,7 @@ use Rattle.ada_typed.proofs.Control as typed
 use Rattle.ada_typed.proofs.Parts.{shown_number, shown_shapes}
 use Rattle.ada_sound.proofs.Objects.{get_new, set_new, set_get}
 use Rattle.ada_sound.proofs.Alters.{alters_new}
-use Rattle.ada_sound.proofs.CopiedOwners.{NamesThere, NameThere, names_still, names_reverse, CopyLeft, Covered, owners_left, hiding}
+use Rattle.ada_sound.proofs.CopiedOwners.{Original, NamesThere, NameThere, names_still, names_reverse, CopyLeft, Covered, owners_left, hiding}
 use Rattle.ada_sound.proofs.Defaults.{Reaches}
 use Rattle.ada_sound.proofs.NoneHidden.{shifted_none}
 use Rattle.ada_sound.proofs.HiddenOwners.{StoresWell, covered_stores, names_hidden}
@@ -80,6 +80,9 @@ hidden_nothing hidden vs well = names_nothing (blank_values hidden vs) (λ i v a
         let same : 0 + i ≡ i = omega arith in
         stored_at hidden 0 vs i v well (rw same is) (sym (untracked_read hidden 0 i vs is) ∙ at) o names
 
+zero_plus : (d : ℕ) → 0 + d ≡ d
+zero_plus d = omega arith
+
 got_there : (heap : List Object) (vs : List Value) (c : ℕ) (v : Value) → NameThere heap vs → slice_get vs c ≡ Some v → NamesThere heap v
 got_there heap [] c v names at = absurd (cc at)
 got_there heap (w ∷ vs) zero v names at = let same : w ≡ v = cc at in (λ o is. names.0 o (same ∙ is))
@@ -87,7 +90,7 @@ got_there heap (w ∷ vs) (suc c) v names at = got_there heap vs c v names.1 at
 
 -- A record object comes to be whose components are those of another one, and then it is adjusted.
 module _ (known : Known) (rest : List (Activation Value)) (s : State) (types : List TypeDefinition) (reaches : Reaches known types) (x t : ℕ) (a : Activation Value) (k : Control) (values : List Value) (u : Value) (is : is_record_object t (variable_kind known.program.variables x) ≡ true) (there : slice_get a.places x ≡ Some u)
-    (r : ℕ) (first : AdjustsFirst known.program.types t r) (kinds : List ComponentKind) (components : record_components known.program.types r ≡ Some kinds) (have : HaveKinds known.program.types (cells_of s.heap) kinds values) (names : NameThere s.heap values) where
+    (r : ℕ) (first : AdjustsFirst known.program.types t r) (kinds : List ComponentKind) (components : record_components known.program.types r ≡ Some kinds) (have : HaveKinds known.program.types (cells_of s.heap) kinds values) (names : NameThere s.heap values) (original : Original known.program.types s.heap r values) where
   abbrev forms : List TypeForm
   forms = known.program.types
 
@@ -150,7 +153,7 @@ module _ (known : Known) (rest : List (Activation Value)) (s : State) (types : L
   there_later : (p : Id) → IsThere s.heap p → IsThere heap p
   there_later p h = (h.0, at_older s.heap (words_of types t) cell p (not_past s.heap p h.0 h.1) ∙ h.1, h.2)
 
-  left : CopyLeft forms t r tasks
+  abbrev left : CopyLeft forms t r tasks
   left = record {
     of = of;
     first = 0;
@@ -177,6 +180,17 @@ module _ (known : Known) (rest : List (Activation Value)) (s : State) (types : L
         there = refl;
         record_type = r;
         left = left;
+        copied = inr (record {
+          source = original.source;
+          first = original.first;
+          part = original.part;
+          object = original.object;
+          found = at_older s.heap (words_of types t) cell original.source (not_past s.heap original.source original.object original.found) ∙ original.found;
+          there = original.there;
+          lies = original.lies;
+          elsewhere = λ same. absurd (not_past s.heap original.source original.object original.found (sym same));
+          holds = λ d p has less outside at. original.holds d (Names p) (ap (λ (n : ℕ). slice_get values n) (sym (zero_plus d)) ∙ at);
+        });
         named = names_hidden heap hidden values (λ c v at. got_there heap values c v (names_still s.heap heap values there_later names) at);
         works = rw heap_is aside;
       }
@@ -194,11 +208,12 @@ recorded_fine known k a rest s types reaches x t kinds fits computed held w = by
   where
     by : typed.Fits known.program (cells_of s.heap) kinds (DeclaresRecord x t ∷ k) → RecordsFrom known s.heap a.operands x t k w.rooms w.holds → Stepped known s.heap Quiet (made named types x t Copy (reverse (take (words_of types t) a.operands)) (running k (record a { operands = drop (words_of types t) a.operands }) rest s))
     by fits' (inl plain, recording) = recorded_plain known k a rest s types reaches x t kinds fits' computed held (at_work w (plain, recording))
-    by (ks, object, cs, is, of, one, reached, other, more) (inr (r, first, (own, components, names)), (of_record, owns, runs)) =
+    by (ks, object, cs, is, of, one, reached, other, more) (inr (r, first, (own, components, names, original)), (of_record, owns, runs)) =
         let counted : words_of types t ≡ length cs = ap count_of (reaches.0 t ∙ reached) in
         let have = (typed.split known.program.types (cells_of s.heap) cs ks a.operands (rw is at computed)).0 in
         let there : components_reached known.program.types (Some r) ≡ Some cs = rw (first.0) at reached in
         let same : own ≡ cs = cc (components, there) in
         let place = has_place known.program.types (cells_of s.heap) known.program.variables a.places x t held of_record in
         made_adjusts known rest s types reaches x t (record a { operands = drop (words_of types t) a.operands }) k (reverse (take (words_of types t) a.operands)) place.0 of_record place.1
-        r first cs there (rw counted have) (rw counted (names_reverse s.heap (take (length cs) a.operands) (rw same at names))) (at_work w (owns, runs))
+        r first cs there (rw counted have) (rw counted (names_reverse s.heap (take (length cs) a.operands) (rw same at names)))
+        (rw counted (rw same at original)) (at_work w (owns, runs))

@@ -57,7 +57,7 @@ use Rattle.ada_sound.proofs.InsideRecords.{TasksInside}
 use Rattle.ada_typed.specs.Holding.{PartsLie}
 use Rattle.ada_typed.proofs.Parts.{shown_number}
 use Rattle.ada_tracked.specs.Frames.{values_at, blanked}
-use Rattle.ada_sound.proofs.CopiedOwners.{NameThere, owners_left, hiding, Covered, CopyLeft, SeesToAll}
+use Rattle.ada_sound.proofs.CopiedOwners.{AreCopied, IsElsewhere, LieApart, NameThere, Original, owners_left, hiding, Covered, CopyLeft, SeesToAll}
 use Rattle.ada_sound.proofs.Alters.{BackIn, Alters}
 
 -- What is left to do, over names.
@@ -773,6 +773,7 @@ pub record AdjustedBehind (known : Known) (v : Value) (access record_type first 
   pub components : record_components known.program.types record_type ≡ Some kinds
   pub counted : count ≡ length kinds
   pub left : CopyLeft known.program.types access record_type tasks
+  pub begins : left.first ≡ first
   pub covers :
       (reached : List ComponentKind) → reached_components known.program.types access ≡ Some reached
       → Covered (owners_left known.program.types access tasks) first (take count (drop first reached))
@@ -796,11 +797,13 @@ abbrev pub StoresSo : Known → List Object → Value → (record_type first cou
 StoresSo known heap v t first count k rooms holds =
     PlainBehind known heap v first count k rooms holds ⊎ IsAdjustedIn known heap v t first count k rooms holds
 
--- So it is where they are the newest operands: what these name is there.
+-- So it is where they are the newest operands: what these name is there, and they are the components of another record of the type.
 abbrev pub StoresFrom : Known → List Object → (operands : List Value) → Value → (first count : ℕ) → Control → Rooms → Holds → Type 0
 StoresFrom known heap operands v first count k rooms holds =
     PlainBehind known heap v first count k rooms holds
-    ⊎ ((t : ℕ) × IsAdjustedIn known heap v t first count k rooms holds × NameThere heap (take count operands))
+    ⊎ ((t : ℕ) × IsAdjustedIn known heap v t first count k rooms holds × NameThere heap (take count operands)
+    × ((original : Original known.program.types heap t (reverse (take count operands)))
+    × IsElsewhere known.program.types heap t (reverse (take count operands)) original v first))
 
 -- The innermost master may own a record object that is known by this type.
 abbrev pub MayOwn : Rooms → (object_type : ℕ) → Type 0
@@ -825,10 +828,11 @@ AdjustsFirst types t r = (object_named types (Some t) ≡ Some r) × ((of : ℕ)
 abbrev pub IsPlainFirst : List TypeForm → (object_type : ℕ) → Type 0
 IsPlainFirst types t = (owns_at_first types t ≡ false) × (shown_number types (object_named types (Some t)) ≡ None)
 
--- The newest operands are the components of a record of this type, which is copied: what they name is there.
+-- The newest operands are the components of a record of this type, which is copied: what they name is there, and so is the record.
 abbrev pub HasCopied : Known → List Object → (record_type : ℕ) → (operands : List Value) → Type 0
 HasCopied known heap r operands =
     (kinds : List ComponentKind) × (record_components known.program.types r ≡ Some kinds) × NameThere heap (take (length kinds) operands)
+    × Original known.program.types heap r (reverse (take (length kinds) operands))
 
 -- What is left of an initial value that is a copy: the record that is copied, or nothing, once it has been.
 abbrev pub CopiesFirst : Known → List Object → (record_type : ℕ) → List ItemForm → (operands : List Value) → Type 0
@@ -865,9 +869,16 @@ abbrev pub CopiesTo : Known → List Object → List Value → (record_type : �
 CopiesTo known heap places t below [] rooms holds = ⊥
 CopiesTo known heap places t below (Fills items ∷ k) rooms holds =
     (kinds : List ComponentKind) × (record_components known.program.types t ≡ Some kinds)
-    × ((vs : List Value) → length vs ≡ length kinds → NameThere heap vs → FillsTo known heap places items k (in_front vs below) rooms holds)
+    × ((vs : List Value) → length vs ≡ length kinds → NameThere heap vs → Original known.program.types heap t vs
+    → FillsTo known heap places items k (in_front vs below) rooms holds)
 CopiesTo known heap places t below (StoresRecord o first count ∷ k) rooms holds = StoresSo known heap o t first count k rooms holds
 CopiesTo known heap places t below (f ∷ k) rooms holds = ⊥
+
+-- Where a record of this type is copied next from an object, from this component on, to what is behind that, it is another record (5.2).
+abbrev pub CopiesElsewhere : List TypeForm → (record_type first : ℕ) → Value → Control → Type 0
+CopiesElsewhere types t first v [] = Unit {0}
+CopiesElsewhere types t first v (StoresRecord o to count ∷ k) = o ≡ v → LieApart types t first to
+CopiesElsewhere types t first v (f ∷ k) = Unit {0}
 
 -- A record of this type, of Integers and Booleans, is a target: less may be known behind the assignment, where its operations free objects.
 abbrev pub RecordIn : Known → (record_type : ℕ) → List ItemForm → Control → Rooms → Holds → Type 0
@@ -1357,7 +1368,8 @@ FindsFor known heap places w below cs (Targets c right ∷ k) rooms holds =
     RaisesAt known w cs k rooms holds × FillsIn known right (LeadsTo heap places w cs c) rooms holds k
 FindsFor known heap places w below cs (TargetsRecord first t items ∷ k) rooms holds = RaisesAt known w cs k rooms holds × RecordIn known t items k rooms holds
 FindsFor known heap places w below cs (Copies first t ∷ k) rooms holds =
-    RaisesAt known w cs k rooms holds × CopiesTo known heap places t below k rooms holds
+    RaisesAt known w cs k rooms holds
+    × (((v : Value) → CopiesElsewhere known.program.types t first v k) × CopiesTo known heap places t below k rooms holds)
 FindsFor known heap places w below cs (Receives c ∷ k) rooms holds =
     RaisesAt known w cs k rooms holds × MayRaise known true EndError k rooms holds × RunsOn known k rooms holds
 FindsFor known heap places w below cs (FreesIn access c ∷ k) rooms holds = Releasing known heap w cs access c k rooms holds
@@ -1470,7 +1482,10 @@ LiesIn known heap t (Part o first) = ⊥
 abbrev pub CopiesBehind : Known → Control → List Object → (places operands : List Value) → List Master → Type 0
 CopiesBehind known [] heap places operands masters = ⊥
 CopiesBehind known (Copies first t ∷ k) heap places operands masters =
-    IsCopied known t × Working known heap places masters (λ rooms holds. LiesIn known heap t (first_or Null operands) × StoresBehind known heap t k rooms holds × AssignsWell known t holds)
+    IsCopied known t
+    × Working known heap places masters (λ rooms holds.
+    (LiesIn known heap t (first_or Null operands) × CopiesElsewhere known.program.types t first (first_or Null operands) k) × StoresBehind known heap t k rooms holds
+    × AssignsWell known t holds)
 CopiesBehind known (f ∷ k) heap places operands masters = ⊥
 
 -- This exception may come out of the initialization of the object that a value names (7.6).
@@ -1517,8 +1532,8 @@ IsOfAssigned types (begins by done) tasks k = Unit {0}
 IsOfAssigned types (ends cause) tasks k = IsOfCopied types cause tasks k
 
 -- A record in an object was copied to, and this is left of its adjustment, in front of what is left (7.6): the components of access types that are still to be
--- adjusted name what those of the other record name, and so they count as null until then; what they name is there, and of what their Adjusts may free there is no
--- alias.
+-- adjusted name what those of the other record name, which is there still, and so they count as null until then; what they name is there, and of what their Adjusts
+-- may free there is no alias.
 pub record AdjustsTo (known : Known) (v : Value) (tasks : List Task) (k : Control) (heap : List Object) (places : List Value) (masters : List Master) : Type 0 where
   pub o : Id
   pub is : v ≡ Names o
@@ -1528,6 +1543,7 @@ pub record AdjustsTo (known : Known) (v : Value) (tasks : List Task) (k : Contro
   pub record_type : ℕ
   pub left : CopyLeft known.program.types x.cell.access record_type tasks
   pub named : NameThere heap (values_at (owners_left known.program.types x.cell.access tasks) x.cell.values)
+  pub copied : AreCopied known.program.types heap o record_type left.first (owners_left known.program.types x.cell.access tasks) x.cell.values
   pub works :
       Working known (blanked (hiding (owners_left known.program.types x.cell.access tasks) o) heap) places masters (λ rooms holds.
       RunsOn known k rooms holds × AdjustsAside known x.cell.access record_type holds)
@@ -1585,7 +1601,7 @@ ReadyBy known (AppliesAlone operator) k heap places operands masters =
 ReadyBy known (Fills items) k heap places operands masters = Working known heap places masters (FillsTo known heap places items k operands)
 ReadyBy known (Copies first t) k heap places operands masters = Working known heap places masters (λ rooms holds.
     MayFollow heap (first_or Null operands) × RaisesAt known (first_or Null operands) [] k rooms holds
-    × CopiesTo known heap places t (older operands) k rooms holds)
+    × (CopiesElsewhere known.program.types t first (first_or Null operands) k × CopiesTo known heap places t (older operands) k rooms holds))
 ReadyBy known (Creates access count) k heap places operands masters = Working known heap places masters (Filling known heap places access count [] k operands)
 ReadyBy known (Stores x) k heap places operands masters = Resumes known heap (slice_set places x (first_or Null operands)) masters k
 ReadyBy known (Targets c right) k heap places operands masters = TargetsTo known (first_or Null operands) c right k heap places masters

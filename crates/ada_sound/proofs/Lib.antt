@@ -53,6 +53,8 @@ pub mod Placed
 pub mod SeenOwners
 -- where the parts lie that are left
 pub mod PartsApart
+-- where a record is copied from another one of its object
+pub mod CopiedApart
 -- what every step keeps
 pub mod Invariant
 -- objects are stored in each state
@@ -91,6 +93,8 @@ pub mod Assigned
 pub mod Taken
 -- what the items of an allocator give
 pub mod Filled
+-- where records that are copied come from
+pub mod Originals
 -- records that are copied as items
 pub mod Copied
 -- what is relied on while a new object is made
@@ -292,6 +296,8 @@ pub mod AdjustingEnds
 pub mod AdjustingGoes
 -- states in which components of an object are put aside
 mod PutAside
+-- what is put aside meanwhile names what is there
+pub mod CopiedNames
 -- each step of such a body, where other parts of the copy are adjusted later
 pub mod AdjustingCopies
 -- what each step rests on

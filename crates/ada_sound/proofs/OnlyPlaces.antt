@@ -1,9 +1,9 @@
 -- Where the one controlled part of a record lies that itself lies in an object (7.6): what has a controlled part of the record lies in the record.
 
-use Rattle.std.proofs.Common.{◌≡◌, ◌≢◌, ℕ, zero, suc, ◌+◌, ◌<◌, ◌≤◌, ◌==◌, Bool, true, false, ◌&&◌, ◌||◌, List, [], ◌∷◌, length, Option, Some, None, inl, inr, arith, refl, sym, ap, ◌∙◌, subst}
+use Rattle.std.proofs.Common.{◌≡◌, ◌≢◌, ℕ, zero, suc, ◌+◌, ◌<◌, ◌≤◌, ◌==◌, Bool, true, false, ◌&&◌, ◌||◌, List, [], ◌∷◌, length, Option, Some, None, inl, inr, arith, refl, sym, ap, ◌∙◌, subst, ◌⊎◌}
 use Rattle.std.specs.Prelude.{not, nat_lt, count_by, find}
 use Rattle.std.specs.List.{list_all, slice_get}
-use Rattle.std.proofs.lemmas.Bool.{and_parts, eqb-true, ltb-true}
+use Rattle.std.proofs.lemmas.Bool.{and_parts, eqb-true, ltb-true, cases_lt}
 use Rattle.std.proofs.lemmas.Bool.Decides.{eqb_tells}
 use Rattle.std.proofs.lemmas.Grind.{common_steps}
 use Rattle.ada_parts.specs.Shape.{Shape, shape_of}
@@ -245,7 +245,85 @@ module _ (types : List TypeForm) (fit : list_all (type_fits types) types ≡ tru
             part_so = omega (arith, number, behind);
           }
 
+  -- Two records of a type that lie in another record are one, or the controlled parts of one are not those of the other.
+  abbrev pub AreApart : (k l count : ℕ) → Type 0
+  AreApart k l count = (k ≡ l) ⊎ ((k + count ≤ l) ⊎ (l + count ≤ k))
+
+  pub two_walks : (a first k t other l : ℕ) → Walks types a first k t → Walks types a other l t → AreApart k l (part_count types t)
+  two_walks a _ _ _ other l ends others = let inside = walked_counts types fit a other l a others in inl (omega (arith, inside))
+  two_walks a _ _ t other l (into i first k _ m name ps components f p v at there is known walks) others =
+      by other l t others refl (λ x y more. two_walks v.0 first k t x y walks more)
+    where
+      ordered : parts_in_order types f.parts 0 ps ≡ true
+      ordered = in_order types fit a name ps components (Some f) at
+
+      within : parts_within types p.kind ≡ part_count types v.0
+      within = ap (parts_within types) is
+
+      inside : k + part_count types t ≤ part_count types v.0
+      inside = walked_counts types fit v.0 first k t walks
+
+      all_inside : (p.part + k) + part_count types t ≤ part_count types a
+      all_inside = walked_counts types fit a (p.first + first) (p.part + k) t (into i first k t m name ps components f p v at there is known walks)
+
+      by : (x y w : ℕ) → Walks types a x y w → w ≡ t → ((x y : ℕ) → Walks types v.0 x y t → AreApart k y (part_count types t))
+          → AreApart (p.part + k) y (part_count types t)
+      by _ _ w ends same more = let count : part_count types a ≡ part_count types t = ap (part_count types) same in inl (omega (arith, all_inside, count))
+      by _ _ w (into j x y _ n name_two qs components_two g q z at_two there_two is_two known_two further) same more =
+          elim (cases_lt (q.part + y) ((p.part + k) + part_count types t)) [
+            | inr past ↦ inr (inl (omega (arith, past)))
+            | inl high ↦
+                elim (cases_lt (p.part + k) ((q.part + y) + part_count types t)) [
+                  | inr past ↦ inr (inr (omega (arith, past)))
+                  | inl low ↦ both high low
+                ]
+          ]
+        where
+          same_parts : ps ≡ qs
+          same_parts = ap shown_parts (sym at ∙ at_two)
+
+          within_two : parts_within types q.kind ≡ part_count types z.0
+          within_two = ap (parts_within types) is_two
+
+          inside_two : y + part_count types t ≤ part_count types z.0
+          inside_two = subst (λ (u : ℕ). y + part_count types u ≤ part_count types z.0) same (walked_counts types fit z.0 x y w further)
+
+          there_too : slice_get ps j ≡ Some q
+          there_too = ap (λ (rs : List PartForm). slice_get rs j) same_parts ∙ there_two
+
+          one_of : (c : ℕ) → p.part ≤ c → c < p.part + parts_within types p.kind → q.part ≤ c → c < q.part + parts_within types q.kind → p ≡ q
+          one_of c = shared_part types f.parts 0 ps i j c p q ordered there there_too
+
+          both : q.part + y < (p.part + k) + part_count types t → p.part + k < (q.part + y) + part_count types t → AreApart (p.part + k) (q.part + y) (part_count types t)
+          both high low =
+              let one : p ≡ q = elim (cases_lt (q.part + y) (p.part + k)) [
+                | inl less ↦
+                    one_of (p.part + k) (omega arith) (omega (arith, high, less, within, inside)) (omega (arith, less))
+                    (omega (arith, low, within_two, inside_two))
+                | inr least ↦
+                    one_of (q.part + y) (omega (arith, least)) (omega (arith, high, within, inside)) (omega arith)
+                    (omega (arith, low, least, within_two, inside_two))
+              ] in
+              let kinds : part.Record z ≡ part.Record v = sym is_two ∙ ap (λ (s : PartForm). s.kind) (sym one) ∙ is in
+              let type : z ≡ v = cc kinds in
+              let number : p.part ≡ q.part = ap (λ (s : PartForm). s.part) one in
+              let walked : Walks types v.0 x y t = subst (λ (b : TypeNo). Walks types b.0 x y t) type (subst (λ (u : ℕ). Walks types z.0 x y u) same further) in
+              elim (more x y walked) [
+                | inl alike ↦ inl (omega (arith, alike, number))
+                | inr apart ↦
+                    elim apart [
+                      | inl before ↦ inr (inl (omega (arith, before, number)))
+                      | inr behind ↦ inr (inr (omega (arith, behind, number)))
+                    ]
+              ]
+
   -- The same of records that lie in an object.
+  pub two_walks_object :
+      (object : Option ℕ) (first k t other l : ℕ) → WalksTo types object (Some t) first k → WalksTo types object (Some t) other l
+      → AreApart k l (part_count types t)
+  two_walks_object None first k t other l walks others = absurd walks
+  two_walks_object (Some a) first k t other l walks others = two_walks a first k t other l walks others
+
   pub lies_within_object :
       (object : Option ℕ) (first k t other l u : ℕ) → IsControlled types u → WalksTo types object (Some t) first k
       → WalksTo types object (Some u) other l → k ≤ l

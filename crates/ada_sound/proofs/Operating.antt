@@ -141,6 +141,10 @@ module _ (sight : Sight) where
   HoldScalars x =
       (c : ℕ) (v : Value) → holds_elementary (kind_among (reached_components types sight.access) c) ≡ true → slice_get x.cell.values c ≡ Some v → IsScalar v
 
+  -- This is an Integer or Boolean component of the object.
+  abbrev pub IsInto : Value → (component : ℕ) → Type 0
+  IsInto v c = (v ≡ Names sight.object) × (holds_elementary (kind_among (reached_components types sight.access) c) ≡ true)
+
   -- Statements are plain, and so on.
   abbrev pub RunsIn : StmtsForm → Control → Type 0
   RunsIn fs k =
@@ -198,7 +202,7 @@ module _ (sight : Sight) where
   Leads behind (Stores x ∷ k) ms = (holds_elementary (variable_kind variables x) ≡ true) × Leads behind k ms
   Leads behind (Declares x ∷ k) [] = ⊥
   Leads behind (Declares x ∷ k) (m ∷ ms) = (holds_elementary (variable_kind variables x) ≡ true) × Leads behind k (m ∷ ms)
-  Leads behind (StoresIn v c ∷ k) ms = (v ≡ Names sight.object) × Leads behind k ms
+  Leads behind (StoresIn v c ∷ k) ms = IsInto v c × Leads behind k ms
   Leads behind (Writes ∷ k) ms = Unit {0} × Leads behind k ms
   Leads behind (Returns actuals references ∷ k) ms = ((actuals ≡ []) × (references ≡ [])) × (ms ≡ []) × (k ≡ behind)
   Leads behind (f ∷ k) ms = ⊥
@@ -216,8 +220,8 @@ module _ (sight : Sight) where
   Finds behind ms [] vs = ⊥
   Finds behind ms (Leaves left ∷ k) vs = AreScalars vs × Parts behind ms left k
   Finds behind ms (f ∷ k) [] = ⊥
-  Finds behind ms (Targets c right ∷ k) (v ∷ vs) = (v ≡ Names sight.object) × AreScalars vs × EvaluatesIn right k × Quietly behind ms k
-  Finds behind ms (Receives c ∷ k) (v ∷ vs) = (v ≡ Names sight.object) × AreScalars vs × StaysIn EndError k × Quietly behind ms k
+  Finds behind ms (Targets c right ∷ k) (v ∷ vs) = IsInto v c × AreScalars vs × EvaluatesIn right k × Quietly behind ms k
+  Finds behind ms (Receives c ∷ k) (v ∷ vs) = IsInto v c × AreScalars vs × StaysIn EndError k × Quietly behind ms k
   Finds behind ms (f ∷ k) (v ∷ vs) = ⊥
 
   -- What comes next.

@@ -1,7 +1,7 @@
 -- The body of an operation comes to its end (7.6): what waits for it goes on; and an exception that comes out of an Initialize undoes the object (7.6.1), also
 -- inside an operation that touches storage.
 
-use Rattle.std.proofs.Common.{◌≡◌, ℕ, true, List, [], ◌∷◌, refl, inl, inr, subst, sym, ap, ◌∙◌}
+use Rattle.std.proofs.Common.{◌≡◌, ℕ, true, List, [], ◌∷◌, refl, inl, inr, subst, sym, ap, ◌∙◌, slice_get}
 use Rattle.std.specs.Prelude.{Some}
 use Rattle.std.specs.List.{slice_set}
 use Rattle.ada_parts.specs.Task.{Task}
@@ -175,13 +175,13 @@ module _ (program : Program) (o : Id) (treatment : Treatment) (caller : Activati
 
   -- The body writes an Integer or a Boolean into the object: what waits for it waits still.
   pub waits_written :
-      (s after : State) (x : Object) (c : ℕ) (v : Value) → object_at s.heap o ≡ Some x → ((p : Id) → v ≡ Names p → ⊥)
+      (s after : State) (x : Object) (c : ℕ) (v : Value) → object_at s.heap o ≡ Some x → ((p : Id) → v ≡ Names p → ⊥) → ((p : Id) → slice_get x.cell.values c ≡ Some (Names p) → ⊥)
       → after.heap ≡ slice_set s.heap o.0 (filled c v x) → Suspended program o treatment caller rest behind lower s
       → Suspended program o treatment caller rest behind lower after
-  waits_written s after x c v found nameless heap w =
+  waits_written s after x c v found nameless was heap w =
       waits_still s after (rw heap (alters_set s.heap Quiet o x (filled c v x) found (refl, refl, refl) (λ h. h) (λ h. inl h)))
       (λ q other. rw heap (set_other s.heap o.0 q.0 (filled c v x) (λ same. other (id_is q o same)))) w
-      (rw heap (treats_written c v nameless (known_in program caller.procedure w.suspensions) lower s.heap o x found treatment w.tasks
+      (rw heap (treats_written c v nameless (known_in program caller.procedure w.suspensions) lower s.heap o x found was treatment w.tasks
       caller.places caller.operands w.after w.treats))
 
   -- It writes nothing.

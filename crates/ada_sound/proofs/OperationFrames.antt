@@ -12,7 +12,7 @@ use Rattle.ada_program.specs.declared.program.Exception.TheVariants.{ConstraintE
 use Rattle.ada_program.specs.Form.{ExpressionForm, LinksForm, no_more_links, a_link, RightForm, nothing, value_of, allocates, allocates_default, computes, StmtsForm, no_stmts, a_stmt, BranchesForm, HandlersForm, DeclarationForm, creates_pool, collects, declares, declares_record}
 use Rattle.ada_program.specs.ProgramForm.{BodyForm}
 use Rattle.ada_program.specs.Handling.{is_same}
-use Rattle.ada_program.specs.WellFormed.{variable_kind}
+use Rattle.ada_program.specs.WellFormed.{kind_among, reached_components, variable_kind}
 use Rattle.ada_effects.specs.Effects.{no_implicit, declaration_raises, right_starts, binary_raises, expression_raises, links_raise, right_raises, declarations_raise}
 use Rattle.ada_meaning.specs.declared.state.Value.{Value}
 use Rattle.ada_meaning.specs.declared.state.Value.TheVariants.{Null, Names, Scalar, Part}
@@ -30,7 +30,7 @@ use Rattle.ada_sound.proofs.Raising.{or_left, or_right}
 use Rattle.ada_owners.proofs.Changes.{store_is}
 use Rattle.ada_sound.proofs.Objects.{set_here, set_get}
 use Rattle.ada_sound.proofs.OperationStarts.{apart, found_by}
-use Rattle.ada_sound.proofs.Operating.{Sight, IsScalar, AreScalars, IsVariable, AreVariables, OwnVariables, StaysIn, IsInLoop, Contains, GoesIn, HoldScalars, RunsIn, ChoosesIn, EvaluatesIn, TurnsIn, CountsIn, Quietly, Parts, Body}
+use Rattle.ada_sound.proofs.Operating.{Sight, IsInto, IsScalar, AreScalars, IsVariable, AreVariables, OwnVariables, StaysIn, IsInLoop, Contains, GoesIn, HoldScalars, RunsIn, ChoosesIn, EvaluatesIn, TurnsIn, CountsIn, Quietly, Parts, Body}
 use Rattle.ada_sound.proofs.OperationSteps.{acting, IsMild, After, GoesOnIn}
 use Rattle.ada_sound.proofs.OperationStatements as statements
 
@@ -216,8 +216,8 @@ module _ (sight : Sight) (procedure : ℕ) (rest : List (Activation Value)) (low
   filled_scalars : (c : ℕ) (v : Value) → IsScalar v → HoldScalars sight (filled c v body.x)
   filled_scalars c v is d w e at = elim (set_get body.x.cell.values c d v w at) [ inl here ↦ rw here.1 is | inr there ↦ body.scalars d w e there.1 ]
 
-  stores_on : (vs : List Value) → AreScalars vs → (c : ℕ) (v : Value) (m : Mode) (after : State) → IsScalar v → after.activations ≡ acting sight procedure rest lower behind places vs ∷ rest → after.masters ≡ ms ++ lower → after.heap ≡ store s.heap (Names sight.object) c v → after.mode ≡ m → after.control ≡ k → GoesIn sight m k → Quietly sight behind ms k → After sight procedure rest lower behind s.heap (Followed (Names sight.object)) after
-  stores_on vs all c v m after is active masters heap in_mode left goes q = record {
+  stores_on : (vs : List Value) → AreScalars vs → (c : ℕ) (v : Value) (m : Mode) (after : State) → holds_elementary (kind_among (reached_components sight.program.types sight.access) c) ≡ true → IsScalar v → after.activations ≡ acting sight procedure rest lower behind places vs ∷ rest → after.masters ≡ ms ++ lower → after.heap ≡ store s.heap (Names sight.object) c v → after.mode ≡ m → after.control ≡ k → GoesIn sight m k → Quietly sight behind ms k → After sight procedure rest lower behind s.heap (Followed (Names sight.object)) after
+  stores_on vs all c v m after elementary is active masters heap in_mode left goes q = record {
     places = places;
     operands = vs;
     upper = ms;
@@ -233,34 +233,34 @@ module _ (sight : Sight) (procedure : ℕ) (rest : List (Activation Value)) (low
       own = body.own;
       comes = inl (all, goes, q);
     });
-    wrote = inr (body.x, c, v, body.found, is, heap ∙ stored);
+    wrote = inr (body.x, c, v, body.found, (is, λ u at. body.scalars c u elementary at), heap ∙ stored);
     mild = refl;
   }
     where
       stored : store s.heap (Names sight.object) c v ≡ slice_set s.heap (sight.object).0 (filled c v body.x)
       stored = store_is s.heap sight.object body.x body.found c v
 
-  stored_on : (vs : List Value) → AreScalars vs → (c : ℕ) (v : Value) (found : Option Value) → IsScalar v → Quietly sight behind ms k → Goes (stored_next named (Names sight.object) c v found (before vs))
-  stored_on vs all c v None is q = refl
-  stored_on vs all c v (Some w) is q = stores_on vs all c v Running _ is refl refl refl refl refl tt q
+  stored_on : (vs : List Value) → AreScalars vs → (c : ℕ) (v : Value) (found : Option Value) → holds_elementary (kind_among (reached_components sight.program.types sight.access) c) ≡ true → IsScalar v → Quietly sight behind ms k → Goes (stored_next named (Names sight.object) c v found (before vs))
+  stored_on vs all c v None elementary is q = refl
+  stored_on vs all c v (Some w) elementary is q = stores_on vs all c v Running _ elementary is refl refl refl refl refl tt q
 
-  pub store_on : (vs : List Value) → AreScalars vs → (o : Value) (c : ℕ) (v : Value) → o ≡ Names sight.object → IsScalar v → Quietly sight behind ms k → Goes (store_next named o c v (look s.heap o) (before vs))
-  store_on vs all o c v named_so is q = rw named_so (rw (body.found, found_by body.x body.x.stage body.live) (stored_on vs all c v (slice_get body.x.cell.values c) is q))
+  pub store_on : (vs : List Value) → AreScalars vs → (o : Value) (c : ℕ) (v : Value) → IsInto sight o c → IsScalar v → Quietly sight behind ms k → Goes (store_next named o c v (look s.heap o) (before vs))
+  store_on vs all o c v into is q = rw (into.0) (rw (body.found, found_by body.x body.x.stage body.live) (stored_on vs all c v (slice_get body.x.cell.values c) into.1 is q))
 
   -- The next number of the input goes there.
-  received_on : (vs : List Value) → AreScalars vs → (c : ℕ) (input : List ℤ) (found : Option Value) → StaysIn sight EndError k → Quietly sight behind ms k → Goes (received_next named (Names sight.object) c input found (before vs))
-  received_on vs all c input None stays q = refl
-  received_on vs all c [] (Some w) stays q = go _ _ [] ms (Raising EndError) k refl refl refl refl refl refl body.own tt stays q
-  received_on vs all c (i ∷ is) (Some w) stays q = stores_on vs all c (named.integer i) Running _ tt refl refl refl refl refl tt q
+  received_on : (vs : List Value) → AreScalars vs → (c : ℕ) (input : List ℤ) (found : Option Value) → holds_elementary (kind_among (reached_components sight.program.types sight.access) c) ≡ true → StaysIn sight EndError k → Quietly sight behind ms k → Goes (received_next named (Names sight.object) c input found (before vs))
+  received_on vs all c input None elementary stays q = refl
+  received_on vs all c [] (Some w) elementary stays q = go _ _ [] ms (Raising EndError) k refl refl refl refl refl refl body.own tt stays q
+  received_on vs all c (i ∷ is) (Some w) elementary stays q = stores_on vs all c (named.integer i) Running _ elementary tt refl refl refl refl refl tt q
 
-  pub receive_on : (vs : List Value) → AreScalars vs → (o : Value) (c : ℕ) → o ≡ Names sight.object → StaysIn sight EndError k → Quietly sight behind ms k → Goes (receive_next named o c (look s.heap o) (before vs))
-  receive_on vs all o c named_so stays q = rw named_so (rw (body.found, found_by body.x body.x.stage body.live) (received_on vs all c s.input (slice_get body.x.cell.values c) stays q))
+  pub receive_on : (vs : List Value) → AreScalars vs → (o : Value) (c : ℕ) → IsInto sight o c → StaysIn sight EndError k → Quietly sight behind ms k → Goes (receive_next named o c (look s.heap o) (before vs))
+  receive_on vs all o c into stays q = rw (into.0) (rw (body.found, found_by body.x body.x.stage body.live) (received_on vs all c s.input (slice_get body.x.cell.values c) into.1 stays q))
 
   -- What it gets is evaluated first.
-  pub target_on : (vs : List Value) → AreScalars vs → (o : Value) (c : ℕ) (right : RightForm) → o ≡ Names sight.object → EvaluatesIn sight right (StoresIn (Names sight.object) c ∷ k) → Quietly sight behind ms k → Goes (target_next named o c right (look s.heap o) (before vs))
-  target_on vs all o c right named_so into q =
-      rw named_so (rw (body.found, found_by body.x body.x.stage body.live)
-      (go _ _ vs ms Running (Evaluates right ∷ StoresIn (Names sight.object) c ∷ k) refl refl refl refl refl refl body.own all tt (into, (refl, q))))
+  pub target_on : (vs : List Value) → AreScalars vs → (o : Value) (c : ℕ) (right : RightForm) → IsInto sight o c → EvaluatesIn sight right (StoresIn (Names sight.object) c ∷ k) → Quietly sight behind ms k → Goes (target_next named o c right (look s.heap o) (before vs))
+  target_on vs all o c right at into q =
+      rw (at.0) (rw (body.found, found_by body.x body.x.stage body.live)
+      (go _ _ vs ms Running (Evaluates right ∷ StoresIn (Names sight.object) c ∷ k) refl refl refl refl refl refl body.own all tt (into, ((refl, at.1), q))))
 
   -- A declaration of an Integer or a Boolean.
   declaration_right : (right : RightForm) (j : Control) → is_quiet_right sight.program.types sight.program.variables right ≡ true → (right_raises (is_same ConstraintError) right ≡ true → StaysIn sight ConstraintError j) → EvaluatesIn sight right j

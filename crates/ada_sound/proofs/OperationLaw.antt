@@ -69,7 +69,7 @@ operates_on program s after e o a = record {
     by : Wrote sight o.procedure (o.caller ∷ o.rest) o.lower o.behind s.heap after.heap
         → Suspended program o.object o.treatment o.caller o.rest o.behind o.lower after
     by (inl same) = waits_on program o.object o.treatment o.caller o.rest o.behind o.lower s after same o.suspended
-    by (inr (x, c, v, found, is, wrote)) = waits_written program o.object o.treatment o.caller o.rest o.behind o.lower s after x c v found (nameless v is) wrote o.suspended
+    by (inr (x, c, v, found, is, wrote)) = waits_written program o.object o.treatment o.caller o.rest o.behind o.lower s after x c v found (nameless v is.0) (λ p at. nameless (Names p) (is.1 (Names p) at) p refl) wrote o.suspended
 
 -- The body ends: the state is that in which what waits for it goes on.
 pub ends_is : (s : State) (a caller : Activation Value) (rest : List (Activation Value)) (behind : Control) (lower : List Master)

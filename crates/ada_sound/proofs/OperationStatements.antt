@@ -1,6 +1,6 @@
 -- The body of an operation comes to a statement, or to what is left of one (7.6).
 
-use Rattle.std.proofs.Common.{◌≡◌, ◌≢◌, ℕ, zero, suc, true, List, [], ◌∷◌, ◌++◌, refl, ◌⊎◌, inl, inr}
+use Rattle.std.proofs.Common.{◌≡◌, ◌≢◌, ℕ, zero, suc, true, List, [], ◌∷◌, ◌++◌, ◌+◌, refl, sym, ap, subst, ◌∙◌, ◌⊎◌, inl, inr}
 use Rattle.std.specs.Prelude.{ℤ, Option, Some, None, ◌||◌, ◌&&◌}
 use Rattle.std.specs.List.{slice_set}
 use Rattle.ada_program.specs.declared.program.TypeDefinition.{TypeDefinition}
@@ -11,7 +11,7 @@ use Rattle.ada_program.specs.declared.program.VariableKind.TheVariants as variab
 use Rattle.ada_program.specs.Form.{ExpressionForm, RightForm, nothing, value_of, allocates, allocates_default, computes, StmtForm, skips, assigns, assigns_record, frees, gets, writes, writes_text, chooses, repeats, counts, exits, calls, returns, raises, encloses, StmtsForm, a_stmt, BranchesForm, otherwise, a_branch}
 use Rattle.ada_program.specs.ProgramForm.{BodyForm}
 use Rattle.ada_program.specs.Handling.{is_same}
-use Rattle.ada_program.specs.WellFormed.{variable_kind, selectors_kind, selected_kind}
+use Rattle.ada_program.specs.WellFormed.{kind_among, reached_components, variable_kind, selectors_kind, selected_kind}
 use Rattle.ada_effects.specs.Effects.{no_calls, no_implicit, untaken, path_raises, expression_raises, condition_raises, right_raises, right_starts, declarations_raise, stmt_raises, stmts_raise, branches_raise, handlers_raise}
 use Rattle.ada_flow.specs.Flow.{has_exit, have_exit, branches_have_exit, handlers_have_exit}
 use Rattle.ada_meaning.specs.declared.state.Value.{Value}
@@ -31,7 +31,7 @@ use Rattle.ada_sound.proofs.Fits.{place_at}
 use Rattle.ada_sound.proofs.Invariant.{Control}
 use Rattle.ada_sound.proofs.Raising.{or_left, or_right, same_here}
 use Rattle.ada_sound.proofs.OperationStarts.{apart, block_stays}
-use Rattle.ada_sound.proofs.Operating.{Sight, IsScalar, AreScalars, StaysIn, IsInLoop, Contains, GoesIn, Holds, AllHold, RunsIn, ChoosesIn, EvaluatesIn, Quietly, Finds, Comes, Body}
+use Rattle.ada_sound.proofs.Operating.{Sight, IsInto, IsScalar, AreScalars, StaysIn, IsInLoop, Contains, GoesIn, Holds, AllHold, RunsIn, ChoosesIn, EvaluatesIn, Quietly, Finds, Comes, Body}
 use Rattle.ada_sound.proofs.OperationSteps as steps
 use Rattle.ada_sound.proofs.OperationSteps.{acting, IsMild, After, GoesOnIn}
 
@@ -97,13 +97,21 @@ module _ (sight : Sight) (procedure : ℕ) (rest : List (Activation Value)) (low
   jumps_on : (m : Mode) → GoesIn sight m k → After sight procedure rest lower behind s.heap Quiet (record now { mode = m; activations = acting sight procedure rest lower behind places [] ∷ rest })
   jumps_on m goes = on Quiet _ [] tt refl refl refl (inl (tt, goes, q))
 
+  -- What holds an Integer or a Boolean is of a kind.
+  elementary_some : (kind : Option VariableKind) → holds_elementary kind ≡ true → (k : VariableKind) × (kind ≡ Some k) × (holds_elementary (Some k) ≡ true)
+  elementary_some None e = absurd (cc e)
+  elementary_some (Some k) e = (k, refl, e)
+
   -- The object is found in which a component is to get something.
-  formal_whole : (kind : Option VariableKind) (v : Value) (c : ℕ) → holds_elementary (selected_kind sight.program.types kind c) ≡ true → Holds sight kind v → whole v ≡ Names sight.object
+  formal_whole : (kind : Option VariableKind) (v : Value) (c : ℕ) → holds_elementary (selected_kind sight.program.types kind c) ≡ true → Holds sight kind v → IsInto sight (whole v) (named.inside v c)
   formal_whole None v c e h = absurd (cc e)
   formal_whole (Some variable.Integer) v c e h = absurd (cc e)
   formal_whole (Some variable.Boolean) v c e h = absurd (cc e)
   formal_whole (Some (variable.Access access)) v c e h = absurd h
-  formal_whole (Some (variable.Record t)) v c e (place, is, within) = rw is refl
+  formal_whole (Some (variable.Record t)) v c e (place, is, within) =
+      let kind = elementary_some (selected_kind sight.program.types (Some (variable.Record t)) c) e in
+      let there : kind_among (reached_components sight.program.types sight.access) (place.component + c) ≡ Some kind.0 = within c kind.0 kind.1 in
+      subst (λ (u : Value). IsInto sight (whole u) (named.inside u c)) (sym is) (refl, ap holds_elementary there ∙ kind.2)
 
   assigns_on : (selectors : List ℕ) (root : ℕ) (right : RightForm) → (is_near root selectors && holds_elementary (selectors_kind sight.program.types (variable_kind sight.program.variables root) selectors)) ≡ true → EvaluatesIn sight right k → EvaluatesIn sight right (Stores root ∷ k) → Fine (assign_next named selectors root right now)
   assigns_on [] root right e into there = to Quiet _ vs (Evaluates right ∷ Stores root ∷ k) tt refl refl refl refl refl all (there, (e, q))

@@ -37,11 +37,12 @@ module _ (sight : Sight) (procedure : ℕ) (rest : List (Activation Value)) (low
   abbrev pub acting : (places operands : List Value) → Activation Value
   acting places operands = record { procedure = Some procedure; places = places; operands = operands }
 
-  -- The object stays, or one of its components gets an Integer or a Boolean.
+  -- The object stays, or one of its components, which holds one, gets an Integer or a Boolean.
   abbrev pub Wrote : (before after : List Object) → Type 0
   Wrote before after =
       (after ≡ before)
-      ⊎ ((x : Object) × (c : ℕ) × (v : Value) × (object_at before sight.object ≡ Some x) × IsScalar v × (after ≡ slice_set before (sight.object).0 (filled c v x)))
+      ⊎ ((x : Object) × (c : ℕ) × (v : Value) × (object_at before sight.object ≡ Some x)
+      × (IsScalar v × ((u : Value) → slice_get x.cell.values c ≡ Some u → IsScalar u)) × (after ≡ slice_set before (sight.object).0 (filled c v x)))
 
   -- Nothing goes back, begins or ends.
   abbrev pub IsMild : Event → Type 0

@@ -53,7 +53,7 @@ pub this_there : (access : ℕ) (t : Option ℕ) → is_this access t ≡ true �
 this_there access None is = absurd (cc is)
 this_there access (Some t) is = refl
 
-freed_there : (types : List TypeForm) (access : ℕ) (t : Option ℕ) → is_freed_by types access t ≡ true → is_some t ≡ true
+pub freed_there : (types : List TypeForm) (access : ℕ) (t : Option ℕ) → is_freed_by types access t ≡ true → is_some t ≡ true
 freed_there types access None is = absurd (cc is)
 freed_there types access (Some t) is = refl
 

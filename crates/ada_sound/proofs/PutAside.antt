@@ -47,7 +47,7 @@ blank_is_null (b ∷ bs) c vs v is at = by (set_get (blank_values bs vs) b c Nul
 pub one_is_null : (bs : List ℕ) (c : ℕ) (vs : List Value) (v : Value) → is_one_of bs c ≡ true → slice_get (blank_values (shifted 0 bs) vs) c ≡ Some v → v ≡ Null
 one_is_null bs c vs v is at = blank_is_null bs c vs v is (subst (λ (cs : List ℕ). slice_get (blank_values cs vs) c ≡ Some v) (shifted_none bs) at)
 
-other_stays : (bs : List ℕ) (c : ℕ) (vs : List Value) → is_one_of bs c ≡ false → slice_get (blank_values (shifted 0 bs) vs) c ≡ slice_get vs c
+pub other_stays : (bs : List ℕ) (c : ℕ) (vs : List Value) → is_one_of bs c ≡ false → slice_get (blank_values (shifted 0 bs) vs) c ≡ slice_get vs c
 other_stays bs c vs none = untracked_read (shifted 0 bs) 0 c vs (ap (λ (cs : List ℕ). number_at cs 0 c) (shifted_none bs) ∙ not_numbered bs 0 c none)
 
 -- There are as many values as before.
@@ -88,7 +88,7 @@ aside_here bs o h x found = rw found (set_here h o.0 x (blank_object (shifted 0 
 aside_missing : (bs : List ℕ) (o : Id) (h : List Object) → object_at h o ≡ None → blanked (hiding bs o) h ≡ h
 aside_missing bs o h none = rw none refl
 
-aside_other : (bs : List ℕ) (o : Id) (h : List Object) (i : ℕ) → i ≢ o.0 → slice_get (blanked (hiding bs o) h) i ≡ slice_get h i
+pub aside_other : (bs : List ℕ) (o : Id) (h : List Object) (i : ℕ) → i ≢ o.0 → slice_get (blanked (hiding bs o) h) i ≡ slice_get h i
 aside_other bs o h i ne = by (object_at h o) refl
   where
     by : (found : Option Object) → object_at h o ≡ found → slice_get (changed (blank_object (shifted 0 bs)) found h o) i ≡ slice_get h i

@@ -25,7 +25,7 @@ use Rattle.ada_sound.proofs.Orderings.{AsGood}
 use Rattle.ada_sound.proofs.Alters.{alters_same}
 use Rattle.ada_sound.proofs.Stored.{Stored}
 use Rattle.ada_sound.proofs.NoneHidden.{blanked_none}
-use Rattle.ada_sound.proofs.Invariant.{AdjustsAside, AdjustsTo, under_in, outers, StoresOn, Caller, below_callers, below, at_end, nowhere, Known, Control, Rooms, Roomed, To, RunsOn, GoesOn, RaisesAt, CopiesTo, PassesTo, Awaits, IsHolder, Working, Parting, HalfBy, Resumes, NamesTo, Beginning, BegunTo, EndsTo, StoresBehind, CopiesBehind, TreatsBy, RaisesBy, ReadyIn, Ready, Says, Stepped, By, innermost, ways, IsOfAssigned, LiesIn, EndsBy}
+use Rattle.ada_sound.proofs.Invariant.{AdjustsAside, AdjustsTo, under_in, outers, StoresOn, Caller, below_callers, below, at_end, nowhere, Known, Control, Rooms, Roomed, To, RunsOn, GoesOn, RaisesAt, CopiesElsewhere, CopiesTo, PassesTo, Awaits, IsHolder, Working, Parting, HalfBy, Resumes, NamesTo, Beginning, BegunTo, EndsTo, StoresBehind, CopiesBehind, TreatsBy, RaisesBy, ReadyIn, Ready, Says, Stepped, By, innermost, ways, IsOfAssigned, LiesIn, EndsBy}
 use Rattle.ada_meaning.specs.declared.event.Cause.{Cause}
 
 -- The state at work on something, with a running activation; and in another mode.
@@ -161,13 +161,13 @@ module _ (known : Known) where
   stores_copied heap places t below (StoresRecord o first count ∷ k) rooms holds r = r
   stores_copied heap places t below (f ∷ k) rooms holds r = absurd r
 
-  pub copies_on : (first t : ℕ) (k : Control) (heap : List Object) (places operands : List Value) (ms : List Master) → Working known heap places ms (λ rooms holds. IsHolder heap (first_or Null operands) × StoresBehind known heap t k rooms holds) → ReadyIn known Running (Copies first t ∷ k) heap places operands ms
+  pub copies_on : (first t : ℕ) (k : Control) (heap : List Object) (places operands : List Value) (ms : List Master) → Working known heap places ms (λ rooms holds. (IsHolder heap (first_or Null operands) × CopiesElsewhere known.program.types t first (first_or Null operands) k) × StoresBehind known heap t k rooms holds) → ReadyIn known Running (Copies first t ∷ k) heap places operands ms
   copies_on first t k heap places operands ms w =
       let v = first_or Null operands in
       at_work w (
-        holder_follows heap v w.rest.0,
-        holder_raises heap v k w.rooms w.holds w.rest.0,
-        stores_copied heap places t (older operands) k w.rooms w.holds w.rest.1,
+        holder_follows heap v w.rest.0.0,
+        holder_raises heap v k w.rooms w.holds w.rest.0.0,
+        (w.rest.0.1, stores_copied heap places t (older operands) k w.rooms w.holds w.rest.1),
       )
 
   -- A record lies in an object that is there.
@@ -180,7 +180,7 @@ module _ (known : Known) where
   copies_ready : (k : Control) (heap : List Object) (places operands : List Value) (ms : List Master) → CopiesBehind known k heap places operands ms → ReadyIn known Running k heap places operands ms
   copies_ready [] heap places operands ms r = absurd r
   copies_ready (Copies first t ∷ k) heap places operands ms (copied, w) =
-      copies_on first t k heap places operands ms (at_work w (lying_holder heap t (first_or Null operands) w.rest.0, w.rest.1))
+      copies_on first t k heap places operands ms (at_work w ((lying_holder heap t (first_or Null operands) w.rest.0.0, w.rest.0.1), w.rest.1))
   copies_ready (f ∷ k) heap places operands ms r = absurd r
 
   -- An object is treated first, if anything is to be done.

@@ -6,10 +6,10 @@ use Rattle.ada_parts.specs.Law.{Run, here}
 use Rattle.ada_parts.specs.Shape.{Shape}
 use Rattle.ada_parts.specs.Task.{Task, opened}
 use Rattle.ada_program.specs.declared.program.Finalization.{Finalization}
-use Rattle.std.proofs.Common.{◌≡◌, ℕ, Bool, true, false, ◌||◌, ◌&&◌, List, [], ◌∷◌, ◌++◌, length, drop, refl, ◌∙◌, sym, ap, subst, inl, inr}
+use Rattle.std.proofs.Common.{◌≡◌, ◌==◌, ℕ, Bool, true, false, ◌||◌, ◌&&◌, List, [], ◌∷◌, ◌++◌, length, drop, refl, ◌∙◌, sym, ap, subst, inl, inr}
 use Rattle.std.proofs.lemmas.Bool.{and_parts}
 use Rattle.std.specs.Prelude.{Option, Some, None}
-use Rattle.std.specs.List.{list_any, list_all}
+use Rattle.std.specs.List.{list_any, list_all, slice_get}
 use Rattle.ada_parts.specs.declared.tasks.Direction.TheVariants.{PartsFirst, WholeFirst}
 use Rattle.ada_program.specs.declared.program.ComponentKind.{ComponentKind}
 use Rattle.ada_program.specs.declared.program.Exception.{Exception}
@@ -43,7 +43,7 @@ use Rattle.ada_sound.proofs.Copied.{copied_whole, record_there, may_copy}
 use Rattle.ada_sound.proofs.Defaults.{Reaches}
 use Rattle.ada_sound.proofs.Followings.{first_kept, kept_apart}
 use Rattle.ada_sound.proofs.Handings.{passed_safe}
-use Rattle.ada_sound.proofs.Invariant.{outers, AdjustsAside, Known, Control, Rooms, Goes, To, Raised, RunsOn, AdjustedBehind, StoresSo, IsHolder, ReferredBy, IsSource, PassesTo, Working, Fine, ways, MayCopy, StoresBehind, ReadyIn, LiesIn, Spares, AssignsTo, AssignsWell}
+use Rattle.ada_sound.proofs.Invariant.{outers, AdjustsAside, Known, Control, Rooms, Goes, To, Raised, RunsOn, AdjustedBehind, StoresSo, CopiesElsewhere, IsHolder, ReferredBy, IsSource, PassesTo, Working, Fine, ways, MayCopy, StoresBehind, ReadyIn, LiesIn, Spares, AssignsTo, AssignsWell}
 use Rattle.ada_sound.proofs.Outcomes.{raised_before, using_goes, ends_goes, before_lost, goes_map, loses_goes, to_here}
 use Rattle.ada_sound.proofs.Raising.{or_left, or_right}
 use Rattle.ada_sound.proofs.Ready.{running, at_work, at_less, stays, ready_on, runs_on, treats_ready, copies_on}
@@ -56,7 +56,8 @@ use Rattle.ada_sound.proofs.Orderings.{without_freed_good}
 use Rattle.ada_typed.proofs.Evaluations.{cell_at}
 use Rattle.ada_typed.specs.Holding.{cells_of, PartsLie, WalksTo}
 use Rattle.ada_typed.proofs.Parts.{shown_number, shown_shapes}
-use Rattle.ada_sound.proofs.CopiedOwners.{CopiesWell, Covered, SeesToAll, owners_left}
+use Rattle.ada_parts.proofs.Facts.{eq_self}
+use Rattle.ada_sound.proofs.CopiedOwners.{CopiesWell, Covered, LieApart, SeesToAll, owners_left}
 use Rattle.ada_sound.proofs.CoveredOwners.{covered_from}
 
 -- What typing says of the one record that is copied: its path leads to a record.
@@ -154,6 +155,40 @@ module _ (known : Known) (a : Activation Value) (rest : List (Activation Value))
         let one : lies.0 ≡ x.cell = some_same (sym lies.1 ∙ cell_at s.heap p.0 x found) in
         rw from (x, found, there, (other.component, other.part, rw one at lies.3))
 
+    -- Two records that are not one lie apart, where they lie in one object.
+    records_apart :
+        (t : ℕ) (v u : Value) → RefersToRecord known.program.types (cells_of s.heap) t v → RefersToRecord known.program.types (cells_of s.heap) t u
+        → IsSource s.heap v → IsSource s.heap u → same v u ≡ Some false → whole v ≡ whole u → LieApart known.program.types t (base u) (base v)
+    records_apart t v u target source (p, place, from_v, there_v) (q, other, from_u, there_u) apart one =
+        let one_target : RefersToRecord known.program.types (cells_of s.heap) t (Part p place) = rw from_v at target in
+        let one_source : RefersToRecord known.program.types (cells_of s.heap) t (Part q other) = rw from_u at source in
+        let names : Names p ≡ Names q = sym (ap whole from_v) ∙ one ∙ ap whole from_u in
+        let same_name : p ≡ q = cc names in
+        let same_cell : one_target.0 ≡ one_source.0 = some_same (sym one_target.1 ∙ ap (λ (i : Id). slice_get (cells_of s.heap) i.0) same_name ∙ one_source.1) in
+        let differ : same (Part p place) (Part q other) ≡ Some false = ap (λ (w : Value). same w (Part q other)) (sym from_v) ∙ ap (λ (w : Value). same v w) (sym from_u) ∙ apart in
+        let own : LieApart known.program.types t other.component place.component = record {
+          access = one_source.0.access;
+          part = other.part;
+          other = place.part;
+          apart = λ parts. parts_differ p q place.part other.part same_name (sym parts) differ;
+          one_lies = one_source.3;
+          other_lies =
+              subst (λ (c : Cell Value). PartsLie known.program.types (object_named known.program.types (Some c.access)) (Some t) place.component place.part) same_cell one_target.3;
+        } in
+        subst (λ (w : Value). LieApart known.program.types t (base w) (base v)) (sym from_u)
+        (subst (λ (w : Value). LieApart known.program.types t other.component (base w)) (sym from_v) own)
+      where
+        some_bool : {x y : Bool} → Some x ≡ Some y → x ≡ y
+        some_bool e = cc e
+
+        parts_differ : (i j : Id) (m n : ℕ) → i ≡ j → m ≡ n → Some ((i.0 == j.0) && (m == n)) ≡ Some false → ⊥
+        parts_differ i j m n ids parts is =
+            let one : ((i.0 == j.0) && (m == n)) ≡ false = some_bool is in
+            let first : (i.0 == j.0) ≡ true = ap (λ (k : Id). i.0 == k.0) (sym ids) ∙ eq_self i.0 in
+            let second : (m == n) ≡ true = ap (λ (k : ℕ). m == k) (sym parts) ∙ eq_self m in
+            let both : ((i.0 == j.0) && (m == n)) ≡ true = rw (first, second) refl in
+            cc (one, both)
+
     -- Of what the Adjusts of the record may free there is no alias, since there is none of what the assignment may free.
     aside_there : (t access : ℕ) (next : Control) (rooms : Rooms) (holds : Holds) → RunsOn known next rooms holds → AssignsWell known t holds → To (λ less. RunsOn known next rooms less × AdjustsAside known access t less) holds
     aside_there t access next rooms holds runs well =
@@ -220,6 +255,7 @@ module _ (known : Known) (a : Activation Value) (rest : List (Activation Value))
           kinds = kinds;
           components = is;
           counted = refl;
+          begins = refl;
           left = record {
             of = of;
             first = place.component;
@@ -236,15 +272,15 @@ module _ (known : Known) (a : Activation Value) (rest : List (Activation Value))
         }
 
     -- The target is finalized first, where it has controlled parts; else its components are copied at once.
-    begins_assigning : (t : ℕ) (v u : Value) (below : List Value) (kinds : List ComponentKind) → record_components known.program.types t ≡ Some kinds → Target t v kinds → SeesToAll known.program.types t → IsSource s.heap u → LiesIn known s.heap t (whole u) → (found : Option Finalization) → finalization_of known.program.types t ≡ found → MayCopy known t → Working known s.heap a.places s.masters (AssignsTo known t k) → Fine known s.heap s.masters (moves Quiet (assigning named types t v u (running k (record a { operands = below }) rest s)))
-    begins_assigning t v u below kinds is target sees (p, other, from, there) lies found at may w =
+    begins_assigning : (t : ℕ) (v u : Value) (below : List Value) (kinds : List ComponentKind) → record_components known.program.types t ≡ Some kinds → Target t v kinds → SeesToAll known.program.types t → IsSource s.heap u → LiesIn known s.heap t (whole u) → (whole v ≡ whole u → LieApart known.program.types t (base u) (base v)) → (found : Option Finalization) → finalization_of known.program.types t ≡ found → MayCopy known t → Working known s.heap a.places s.masters (AssignsTo known t k) → Fine known s.heap s.masters (moves Quiet (assigning named types t v u (running k (record a { operands = below }) rest s)))
+    begins_assigning t v u below kinds is target sees (p, other, from, there) lies elsewhere found at may w =
         let adjusts = treating (whole v) (begins (Adjustment s.next) []) (record_tasks types t PartsFirst (part_base v)) k in
         let stores = StoresRecord (whole v) (base v) (width_of types t) ∷ adjusts in
         let holder : IsHolder s.heap (whole u) = rw from there in
         let gets : StoresSo known s.heap (whole v) t (base v) (width_of types t) adjusts w.rooms w.holds = rw (width_is known types reaches k a rest s t kinds is, target.is) (gets_so w.rooms w.holds w.rest.0 w.rest.1 found at) in
         stays known Quiet (assigning named types t v u (running k (record a { operands = below }) rest s)) (
           tt,
-          by found at (record_tasks types t WholeFirst (part_base v)) (λ none. reaches.2 t none WholeFirst (part_base v)) (reaches.3 t WholeFirst (part_base v)) stores
+          by found at (record_tasks types t WholeFirst (part_base v)) (λ none. reaches.2 t none WholeFirst (part_base v)) (reaches.3 t WholeFirst (part_base v)) stores elsewhere
               (at_work w (holder, gets, w.rest.1)),
         ) tt
       where
@@ -270,24 +306,26 @@ module _ (known : Known) (a : Activation Value) (rest : List (Activation Value))
         )
 
         by : (f : Option Finalization) → finalization_of known.program.types t ≡ f → (tasks : List Task) → (finalization_of known.program.types t ≡ None → tasks ≡ []) → TasksInside known.program.types t tasks → (stores : Control)
+            → CopiesElsewhere known.program.types t (base u) (whole u) stores
             → Working known s.heap a.places s.masters (λ rooms holds. IsHolder s.heap (whole u) × StoresBehind known s.heap t stores rooms holds × AssignsWell known t holds)
             → ReadyIn known Running (treating (whole v) (ends (Assigning s.next)) tasks (Copies (base u) t ∷ stores)) s.heap a.places (whole u ∷ below) s.masters
-        by None none tasks empty inside stores works =
-            rw (empty none) (copies_on known (base u) t stores s.heap a.places (whole u ∷ below) s.masters (at_work works (works.rest.0, works.rest.1)))
-        by (Some f) some tasks empty inside stores works =
+        by None none tasks empty inside stores apart works =
+            rw (empty none) (copies_on known (base u) t stores s.heap a.places (whole u ∷ below) s.masters (at_work works ((works.rest.0, apart), works.rest.1)))
+        by (Some f) some tasks empty inside stores apart works =
             treats_ready known (whole v) (ends (Assigning s.next)) tasks (Copies (base u) t ∷ stores) s.heap a.places (whole u ∷ below) s.masters
-            ((f, some, may f some), at_work works (lies, works.rest.1, works.rest.2)) inside
+            ((f, some, may f some), at_work works ((lies, apart), works.rest.1, works.rest.2)) inside
 
     -- Nothing is done, where they are one.
     pub assigns_fine : (t : ℕ) (operands : List Value) → RefersToRecord known.program.types (cells_of s.heap) t (first_or Null operands) → RefersToRecord known.program.types (cells_of s.heap) t (first_or Null (older operands)) → Working known s.heap a.places s.masters (PassesTo known s.heap a.places operands (Assigns t ∷ k)) → Fine known s.heap s.masters (assigns_next named types t (first_or Null (older operands)) (first_or Null operands) (same (first_or Null (older operands)) (first_or Null operands)) (running k (record a { operands = older (older operands) }) rest s))
-    assigns_fine t operands refers target w = go (same (first_or Null (older operands)) (first_or Null operands))
+    assigns_fine t operands refers target w = go (same (first_or Null (older operands)) (first_or Null operands)) refl
       where
-        go : (one : Option Bool) → Fine known s.heap s.masters (assigns_next named types t (first_or Null (older operands)) (first_or Null operands) one (running k (record a { operands = older (older operands) }) rest s))
-        go None = tt
-        go (Some true) =
+        go : (one : Option Bool) → same (first_or Null (older operands)) (first_or Null operands) ≡ one → Fine known s.heap s.masters (assigns_next named types t (first_or Null (older operands)) (first_or Null operands) one (running k (record a { operands = older (older operands) }) rest s))
+        go None alike = tt
+        go (Some true) alike =
             let runs = at_less {other = AssignsTo known t k} w w.rest.1 in
             runs_on known k (record a { operands = older (older operands) }) rest s (at_work runs runs.rest.0) Quiet tt
-        go (Some false) =
+        go (Some false) alike =
             let are = w.rest.0 in
             begins_assigning t (first_or Null (older operands)) (first_or Null operands) (older (older operands)) are.0 are.1 (target_there t (first_or Null (older operands)) are.0 are.1 target are.2) are.3 are.4
-            (lies_there t (first_or Null operands) refers are.4) (finalization_of known.program.types t) refl are.5 (at_less {other = AssignsTo known t k} w w.rest.1)
+            (lies_there t (first_or Null operands) refers are.4)
+            (records_apart t (first_or Null (older operands)) (first_or Null operands) target refers are.2 are.4 alike) (finalization_of known.program.types t) refl are.5 (at_less {other = AssignsTo known t k} w w.rest.1)

@@ -79,7 +79,7 @@ bare_left tds access none (picked i left) =
 bare_left tds access none (called left) = ap performed (bare_left tds access none left)
 
 -- So the finalization of what such a body frees calls nothing.
-are_bare : (program : Program) (shuns : ℕ → Bool) → AreApart (program_form program) program.types.items shuns (bare_apart program)
+pub are_bare : (program : Program) (shuns : ℕ → Bool) → AreApart (program_form program) program.types.items shuns (bare_apart program)
 are_bare program shuns = record {
   own = refl;
   bodies = λ number b among there. absurd (cc);

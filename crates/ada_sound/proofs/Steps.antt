@@ -165,6 +165,10 @@ module _ (known : Known) (copies : CopiesWell known.program.types) (may : ℕ �
     record_found first u items [] t r = let fits = t.1 in absurd (no_operand known.program.types (cells_of s.heap) t.0 (of_kind (variable.Access fits.1)) fits.0 fits.3 t.2)
     record_found first u items (v ∷ below) t r = record_target_fine known types reaches k a rest s first u items v below t.0 t.1 t.2 r
 
+    record_copied : (first u : ℕ) (operands : List Value) → RunsTyped known s.heap (Copies first u ∷ k) a.places operands → ReadyBy known (Copies first u) k s.heap a.places operands s.masters → Fine known s.heap s.masters (frame_next named types bodies (Copies first u) (running k (record a { operands = operands }) rest s))
+    record_copied first u [] t r = let fits = t.1 in absurd (no_operand known.program.types (cells_of s.heap) t.0 (of_kind (variable.Access fits.1)) fits.0 fits.3 t.2)
+    record_copied first u (v ∷ below) t r = copies_fine known types reaches k a rest s first u v below t.0 t.1 t.2 r
+
     second_refers : (u : ℕ) (ks : List OperandKind) (vs : List Value) → AreComputed known.program.types (cells_of s.heap) (lies_in u ∷ ks) vs → RefersToRecord known.program.types (cells_of s.heap) u (first_or Null vs)
     second_refers u ks [] computed = absurd computed
     second_refers u ks (v ∷ vs) computed = computed.0
@@ -207,7 +211,7 @@ module _ (known : Known) (copies : CopiesWell known.program.types) (may : ℕ �
         let operand = first_or Null a.operands in
         outcome_fine known k a rest s (older a.operands) (at_work r r.rest.1) (unary_raises operator) (named.unary operator operand) (unary_only operator operand) r.rest.0
     frame_fine (Fills items) calling bare inner t kept well freely low stays r = items_fine known k a rest s items t.1.0 t.1.1 r
-    frame_fine (Copies first u) calling bare inner t kept well freely low stays r = copies_fine known types reaches k a rest s first u (first_or Null a.operands) (older a.operands) r
+    frame_fine (Copies first u) calling bare inner t kept well freely low stays r = record_copied first u a.operands t r
     frame_fine (Creates access count) calling bare inner t kept well freely low stays r = creates_fine known k a rest s types access count (words_of types access) t.0 t.1 t.2 r
     frame_fine (Stores x) calling bare inner t kept well freely low stays r = stores_fine known k a rest s kept.plain x (first_or Null a.operands) (older a.operands) r
     frame_fine (Targets c right) calling bare inner t kept well freely low stays r = found_fine c right a.operands t r

@@ -36,7 +36,7 @@ use Rattle.ada_sound.proofs.Allowance.{Allowance, allowance_of}
 use Rattle.ada_sound.proofs.CopiedOwners.{CopyLeft, owners_left}
 use Rattle.ada_sound.proofs.FrugalControl.{FrugalOperated, Frugally, IsInside, operated_in}
 use Rattle.ada_sound.proofs.Held.{FreeIf, holder_if}
-use Rattle.ada_sound.proofs.Invariant.{AdjustsAside, SparesHolder, body_among, CoveredIn, Control, Rooms, Roomed, GoesTo, MayAwait, RoomFor, RunsOn, Known, IsNewest, Ready, Spares, StartsTo, Unaliased, departs, departs_next, below, innermost, outers, BeginsWell, CameOut, To, By, ways, LiesBelow, OneAwaits, AssignsWell, IsCopied, LiesAmong, AdjustedBehind, IsCovered, EndsWellBy}
+use Rattle.ada_sound.proofs.Invariant.{AdjustsAside, CopiesElsewhere, SparesHolder, body_among, CoveredIn, Control, Rooms, Roomed, GoesTo, MayAwait, RoomFor, RunsOn, Known, IsNewest, Ready, Spares, StartsTo, Unaliased, departs, departs_next, below, innermost, outers, BeginsWell, CameOut, To, By, ways, LiesBelow, OneAwaits, AssignsWell, IsCopied, LiesAmong, AdjustedBehind, IsCovered, EndsWellBy}
 use Rattle.ada_sound.proofs.Operating.{WaitsFor, IsCalm, lets_out}
 use Rattle.ada_sound.proofs.Stored.{HasDeparted, IsUnder, Stored}
 use Rattle.ada_sound.specs.Agreement.{running_procedure}
@@ -203,6 +203,7 @@ pub record Overwrites (known : Known) (object : Id) (access : ℕ) (operands : L
   pub named : first_or Null operands ≡ Names source.object
   pub refers : also ≡ source ∷ []
   pub lies : LiesAmong known source.access record_type
+  pub elsewhere : CopiesElsewhere known.program.types record_type first (Names source.object) stores
   pub into : StoresInto known object access record_type stores rooms holds
   pub well : AssignsWell known record_type holds
 

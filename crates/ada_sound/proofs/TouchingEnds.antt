@@ -613,7 +613,7 @@ module _ (program : Program) (well : IsWellFormed (program_form program)) (s : S
           stored = own_stored (ends (Assigning number)) is;
           roomed = f.waits.roomed;
           fit = own_fit;
-          rest = (rw named lies, stores_next r.record_type r.stores f.rooms f.holds r.into, r.well);
+          rest = ((rw named lies, rw named r.elsewhere), stores_next r.record_type r.stores f.rooms f.holds r.into, r.well);
         },
       )
 
@@ -627,6 +627,7 @@ module _ (program : Program) (well : IsWellFormed (program_form program)) (s : S
     there = rw exists_still refl;
     record_type = r.record_type;
     left = rw f.of_access r.left;
+    copied = inl (rw (f.of_access, r.none) refl);
     named = rw (f.of_access, r.none) tt;
     works = rw (f.of_access, r.none, blanked_none f.object s.heap) (record {
       rooms = f.rooms;

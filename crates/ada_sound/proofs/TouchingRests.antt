@@ -596,7 +596,7 @@ module _ (known : Known) (o : Id) (x : Object) (heap : List Object) (found : obj
 
     assigned_here : (first t : ℕ) (k : Control) → IsStoredIn (Names o) k → Around → CopiesBehind known (Copies first t ∷ k) heap places operands masters
         → Enters known (ends (Assigning number)) o x (Copies first t ∷ k) heap places operands masters
-    assigned_here first t k alone around (copied, w) = by (first_or Null operands) refl w.rest.0
+    assigned_here first t k alone around (copied, w) = by (first_or Null operands) refl w.rest.0.0
       where
         k_is : k ≡ StoresRecord (Names o) alone.to alone.width ∷ alone.rest
         k_is = alone.is
@@ -636,6 +636,7 @@ module _ (known : Known) (o : Id) (x : Object) (heap : List Object) (found : obj
                 named = named;
                 refers = refl;
                 lies = among;
+                elsewhere = rw named at w.rest.0.1;
                 into = into;
                 well = w.rest.2;
               };

@@ -22,7 +22,7 @@ use Rattle.ada_program.specs.declared.program.ProcedureNo.{ProcedureNo}
 use Rattle.ada_program.specs.declared.program.Program.{Program}
 use Rattle.ada_quiet.specs.Apart.{is_this_one, is_adjust_of, is_tracker}
 use Rattle.ada_quiet.specs.Idle.{copies_parts}
-use Rattle.ada_quiet.specs.InUse.{adjusts_alone, adjusts_itself, is_copied_in_order, may_track, operations_may_be_called, stand_in_a_row, uses_adjust, uses_finalize, uses_initialize, uses_operations, uses_called_adjust}
+use Rattle.ada_quiet.specs.InUse.{adjusts_itself, is_copied_in_order, may_track, operations_may_be_called, stand_in_a_row, uses_adjust, uses_finalize, uses_initialize, uses_operations, uses_called_adjust}
 use Rattle.ada_quiet.specs.Quiet.{has_access}
 use Rattle.ada_quiet.specs.Simple.{is_simple_body}
 use Rattle.ada_sound.proofs.AdjustingEnters.{own_adjust}
@@ -49,7 +49,7 @@ uses_body p None number b is there uses = absurd (cc is)
 uses_body p (Some procedure) number b is there uses =
     let same : procedure.0 ≡ number = cc is in
     let body : slice_get p.bodies procedure.0 ≡ Some b = rw same there in
-    apart (may_track p) (is_simple_body p.types (adjusts_alone p) b) (rw body at uses)
+    apart (may_track p) (is_simple_body p.types true b) (rw body at uses)
 
 -- What some type of a program has makes a procedure one that tracks.
 tracks_at : (p : ProgramForm) (number r : ℕ) (t : TypeForm) → slice_get p.types r ≡ Some t → has_access (Some t) ≡ true → is_adjust_of number (finalization_in (Some t)) ≡ true → is_tracker p number ≡ true

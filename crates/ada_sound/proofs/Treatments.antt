@@ -47,6 +47,7 @@ use Rattle.ada_typed.proofs.Parts.{shown_shapes}
 use Rattle.ada_tracked.specs.Frames.{watched, blank_object, blanked, values_at}
 use Rattle.ada_tracked.proofs.Heaps.{blanked_here}
 use Rattle.ada_sound.proofs.CopiedOwners.{BeginsCopy, hiding, names_still, owners_numbered}
+use Rattle.ada_sound.proofs.Originals.{copied_changed}
 use Rattle.ada_sound.proofs.AdjustsKept.{adjusts_set, adjusts_skipped, set_blanked}
 use Rattle.ada_sound.proofs.Invariant.{outers, AdjustsTo, Beginning, Known, Control, Rooms, RunsOn, Working, IsHolder, IsPlainIn, IsAdjustedIn, IsLive, NamesTo, BegunTo, EndsTo, StoresBehind, CopiesBehind, TreatsBy, ThenBack, Ending, ConfinesBy, EndsWell, Stepped, Fine, IsOfAssigned, IsOfCopied, LiesIn}
 use Rattle.ada_sound.proofs.Ready.{running, at_work, stays, treats_ready}
@@ -216,6 +217,7 @@ module _ (change : PartState → PartState) (part : ℕ) where
     copy_set v tasks places k is to =
         adjusts_set known heap places ms o x (treated change part x) found refl refl
         (λ owners there. names_still heap (slice_set heap o.0 (treated change part x)) (values_at owners x.cell.values) (there_set heap o x found) there)
+        (λ r to owners copied. copied_changed known.program.types heap o x (treated change part x) found refl refl (λ c p at. at) (λ c p at. at) r to owners copied)
         (λ owners more w. hidden_set owners places more w) v tasks k is to
 
     -- So does what is copied to a record that is assigned to.
@@ -264,7 +266,7 @@ module _ (change : PartState → PartState) (part : ℕ) where
     copies_set : (places operands : List Value) (k : Control) → CopiesBehind known k heap places operands ms → CopiesBehind known k (slice_set heap o.0 (treated change part x)) places operands ms
     copies_set places operands [] r = absurd r
     copies_set places operands (Copies first t ∷ k) (copied, w) =
-        (copied, works_set heap o x found known ms (at_work w (lies_set t (first_or Null operands) w.rest.0, stores_set t k w.rooms w.holds w.rest.1, w.rest.2)))
+        (copied, works_set heap o x found known ms (at_work w ((lies_set t (first_or Null operands) w.rest.0.0, w.rest.0.1), stores_set t k w.rooms w.holds w.rest.1, w.rest.2)))
     copies_set places operands (f ∷ k) r = absurd r
 
     treats_set : (v : Value) (treatment : Treatment) (tasks : List Task) (places operands : List Value) (k : Control) → v ≡ Names o → TreatsBy known v treatment tasks k heap places operands ms → TreatsBy known v treatment tasks k (slice_set heap o.0 (treated change part x)) places operands ms

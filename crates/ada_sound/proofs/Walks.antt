@@ -219,7 +219,7 @@ module _ (known : Known) (heap : List Object) (places : List Value) where
   finds_ready [] v below ms w follows = absurd (w.rest)
   finds_ready (Targets c right ∷ k) v below ms w follows = inl (at_work w (follows, w.rest.0, w.rest.1))
   finds_ready (TargetsRecord first t items ∷ k) v below ms w follows = at_work w (follows, w.rest.0, w.rest.1)
-  finds_ready (Copies first t ∷ k) v below ms w follows = at_work w (follows, w.rest.0, w.rest.1)
+  finds_ready (Copies first t ∷ k) v below ms w follows = at_work w (follows, w.rest.0, (w.rest.1.0 v, w.rest.1.1))
   finds_ready (Receives c ∷ k) v below ms w follows = at_work w (follows, w.rest.0, w.rest.1, w.rest.2)
   finds_ready (RefersIn place t ∷ k) v below ms w follows = at_work w (follows, w.rest)
   finds_ready (OpensIn c ∷ k) v below ms w follows = at_work w (follows, w.rest)

@@ -1,9 +1,9 @@
 -- Records as wholes: they are copied and assigned to, where their components are Integers and Booleans, or Adjusts see to those of access types.
 
-use Rattle.std.proofs.Common.{◌≡◌, ℕ, zero, suc, ◌+◌, Bool, true, false, ◌||◌, ◌&&◌, List, [], ◌∷◌, ◌++◌, length, take, drop, reverse, refl, sym, ap, subst, ◌∙◌, inl, inr}
+use Rattle.std.proofs.Common.{◌≡◌, ℕ, zero, suc, ◌+◌, Bool, true, false, ◌||◌, ◌&&◌, List, [], ◌∷◌, ◌++◌, length, take, drop, reverse, refl, sym, ap, subst, ◌∙◌, inl, inr, arith}
 use Rattle.std.proofs.lemmas.Bool.{eqb-true}
 use Rattle.std.specs.Prelude.{Option, Some, None, ◌==◌, if◌then◌else◌}
-use Rattle.std.specs.List.{list_any}
+use Rattle.std.specs.List.{list_any, slice_get}
 use Rattle.ada_program.specs.declared.program.ComponentKind.{ComponentKind}
 use Rattle.ada_program.specs.declared.program.Exception.{Exception}
 use Rattle.ada_program.specs.declared.program.Exception.TheVariants.{ConstraintError}
@@ -13,7 +13,8 @@ use Rattle.ada_program.specs.Form.{RecordPathForm, ItemForm, null_item, item_of_
 use Rattle.ada_program.specs.Handling.{is_same}
 use Rattle.ada_program.specs.ProgramForm.{TypeForm, VariableForm}
 use Rattle.ada_program.specs.Typed.{count_of, width_of}
-use Rattle.ada_program.specs.WellFormed.{record_components, reached_components, is_alike, begins_with, begins_with_record, has_record_at, is_record_path, item_fits, item_width, items_fit}
+use Rattle.ada_program.specs.WellFormed.{record_components, reached_components, is_alike, begins_with, begins_with_record, has_record_at, is_record_path, item_fits, item_width, items_fit, object_named}
+use Rattle.ada_quiet.specs.InUse.{count_found}
 use Rattle.ada_effects.specs.Effects.{effects_of, record_path_raises, items_raise, stmt_raises, assignment_frees}
 use Rattle.ada_flow.specs.Flow.{Holds, hold_at, is_owning, owns_among, is_owning_record, passes_it, copies_to, uses_in_items, uses_in_record, uses_in_copy, record_passes, gives_record, using_paths, ends_with, gathers_owners}
 use Rattle.ada_flow.specs.Tracking.{no_tracks}
@@ -23,16 +24,17 @@ use Rattle.ada_meaning.specs.declared.state.Value.TheVariants.{Null, Names, Scal
 use Rattle.ada_meaning.specs.declared.event.Birth.TheVariants.{Adjustment}
 use Rattle.ada_meaning.specs.declared.state.Mode.TheVariants.{Raising, Running}
 use Rattle.ada_meaning.specs.Event.{Followed}
-use Rattle.ada_meaning.specs.Frame.{Does, Fills, TargetsRecord, StoresRecord}
+use Rattle.ada_meaning.specs.Frame.{Copies, Does, Fills, TargetsRecord, StoresRecord}
 use Rattle.ada_meaning.specs.Frame as frame
 use Rattle.ada_meaning.specs.Heap.{finds}
 use Rattle.ada_meaning.specs.State.{Activation, Master}
 use Rattle.ada_meaning.specs.Step.{in_front, if_whole, record_in, copied_next, copies_next, record_target_next, stored_from, record_stored_next, store_record_next, place_in, record_holder_next}
 use Rattle.ada_meaning.specs.Named.{Object, State, object_at, filled, store, look, named}
+use Rattle.ada_meaning.proofs.Defaults.{taken_back}
 use Rattle.ada_owners.specs.Places.{is_there}
 use Rattle.ada_owners.specs.Keeping.{IsThere}
 use Rattle.ada_owners.proofs.Changes.{store_is}
-use Rattle.ada_typed.specs.Holding.{cells_of}
+use Rattle.ada_typed.specs.Holding.{PartsLie, cells_of}
 use Rattle.ada_typed.proofs.Values.{OperandKind, of_kind, AreComputed}
 use Rattle.ada_typed.proofs.Control as typed
 use Rattle.ada_sound.proofs.Objects.{set_here}
@@ -40,13 +42,13 @@ use Rattle.ada_sound.proofs.Stored.{Stored, stored_filled}
 use Rattle.ada_sound.proofs.Fits.{Fit, MayFollow, none_spared, place_at, store_blank}
 use Rattle.ada_sound.proofs.Alters.{Alters, alters_same, alters_set, alters_then}
 use Rattle.ada_sound.proofs.Begins.{root_follows}
-use Rattle.ada_sound.proofs.CopiedOwners.{NameThere, names_drop, names_take, names_reverse, names_in_front, names_all, CopyLeft, owners_left, hiding, IsHidden, Covered, CopiesWell}
+use Rattle.ada_sound.proofs.CopiedOwners.{AreCopied, CopiedFrom, IsElsewhere, Original, NameThere, names_drop, names_take, names_reverse, names_in_front, names_all, CopyLeft, owners_left, hiding, IsHidden, Covered, CopiesWell}
 use Rattle.ada_sound.proofs.CoveredOwners.{alike_owns}
 use Rattle.ada_sound.proofs.NoneHidden.{shifted_none}
 use Rattle.ada_sound.proofs.HiddenOwners.{names_hidden, hide_set, components_there, stored_hidden, StoresWell, covered_stores, Hides, hide_all}
 use Rattle.ada_tracked.specs.Frames.{View, shifted, blanked, values_at}
 use Rattle.ada_typed.proofs.Parts.{shown_number}
-use Rattle.ada_sound.proofs.Invariant.{outers, AdjustsAside, Giving, GivingPlain, OwnsNothing, OwnNothing, Known, Control, Rooms, Goes, To, Raised, RunsOn, RaisesAt, IsPlainIn, AdjustedBehind, IsAdjustedIn, StoresSo, StoresFrom, AdjustsTo, ReadyIn, CopiesTo, RecordIn, Working, Fine, ways, begun, along}
+use Rattle.ada_sound.proofs.Invariant.{outers, AdjustsAside, Giving, GivingPlain, OwnsNothing, OwnNothing, Known, Control, Rooms, Goes, To, Raised, RunsOn, RaisesAt, IsPlainIn, AdjustedBehind, IsAdjustedIn, StoresSo, StoresFrom, AdjustsTo, ReadyIn, CopiesTo, RecordIn, Working, Fine, ways, begun, along, CopiesElsewhere}
 use Rattle.ada_sound.proofs.Ready.{running, at_work, at_less, stays, runs_ready, treats_ready, jumps_less}
 use Rattle.ada_sound.proofs.Outcomes.{raised_before, using_goes, ends_goes, loses_to}
 use Rattle.ada_sound.proofs.Followings.{first_kept, kept_apart}
@@ -55,6 +57,7 @@ use Rattle.ada_sound.proofs.Raising.{or_left, or_right}
 use Rattle.ada_sound.proofs.Roots.{root_object, object_there, record_raises, selected_raises}
 use Rattle.ada_sound.proofs.Assigned.{kind_names}
 use Rattle.ada_sound.proofs.Gathered.{gathered_bare}
+use Rattle.ada_sound.proofs.Originals.{copied_stored}
 use Rattle.ada_sound.proofs.Copied.{items_keep, copied_plain, RecordThere}
 use Rattle.ada_sound.proofs.Defaults.{Reaches}
 use Rattle.ada_sound.proofs.Records.{NameNothing, plain_names_nothing}
@@ -142,6 +145,18 @@ covered_to hidden first (c ∷ components) (kind ∷ kinds) begins covers =
     let b = both (is_alike c kind) (begins_with components kinds) begins in
     (covers_same c kind b.0 (IsHidden hidden first) covers.0, covered_to hidden (first + 1) components kinds b.1 covers.1)
 
+-- What is taken of a list, and what is left of it, is what that has.
+some_taken : (n : ℕ) (vs : List Value) (d : ℕ) (v : Value) → slice_get (take n vs) d ≡ Some v → slice_get vs d ≡ Some v
+some_taken zero vs d v at = absurd (cc at)
+some_taken (suc n) [] d v at = absurd (cc at)
+some_taken (suc n) (u ∷ vs) zero v at = at
+some_taken (suc n) (u ∷ vs) (suc d) v at = some_taken n vs d v at
+
+get_drop : (vs : List Value) (n d : ℕ) → slice_get (drop n vs) d ≡ slice_get vs (n + d)
+get_drop vs zero d = ap (λ (j : ℕ). slice_get vs j) (omega arith)
+get_drop [] (suc n) d = refl
+get_drop (v ∷ vs) (suc n) d = let next : suc (n + d) ≡ suc n + d = omega arith in get_drop vs n d ∙ ap (λ (j : ℕ). slice_get (v ∷ vs) j) next
+
 -- As many values as are copied.
 whole_length : (count : ℕ) (values vs : List Value) → if_whole count values ≡ Some vs → length vs ≡ count
 whole_length count values vs e = go (length values == count) refl e
@@ -189,33 +204,89 @@ module _ (known : Known) (types : List TypeDefinition) (reaches : Reaches known 
       let as_many : count ≡ length vs = to.counted ∙ sym (many ∙ width_is t to.kinds to.components) in
       rw as_many (names_in_front s.heap vs below names)
 
-  copied_in : (p : Value) (t first count : ℕ) (vs below : List Value) (next : Control) (rooms : Rooms) (holds : Holds) → length vs ≡ width_of types t → NameThere s.heap vs → StoresSo known s.heap p t first count next rooms holds → StoresFrom known s.heap (in_front vs below) p first count next rooms holds
-  copied_in p t first count vs below next rooms holds many names (inl r) = inl r
-  copied_in p t first count vs below next rooms holds many names (inr r) = inr (t, r, copied_from p t first count vs below next rooms holds many names r)
+  -- They are those of the record that was copied.
+  copied_back :
+      (p : Value) (t first count : ℕ) (vs below : List Value) (next : Control) (rooms : Rooms) (holds : Holds) → length vs ≡ width_of types t
+      → IsAdjustedIn known s.heap p t first count next rooms holds → reverse (take count (in_front vs below)) ≡ vs
+  copied_back Null t first count vs below next rooms holds many r = absurd r
+  copied_back (Scalar n) t first count vs below next rooms holds many r = absurd r
+  copied_back (Part q place) t first count vs below next rooms holds many r = absurd r
+  copied_back (Names q) t first count vs below next rooms holds many r =
+      let to = r.3 in
+      let as_many : count ≡ length vs = to.counted ∙ sym (many ∙ width_is t to.kinds to.components) in
+      ap (λ (n : ℕ). reverse (take n (in_front vs below))) as_many ∙ taken_back vs below
+
+  -- A record is one that these values are copied from, which is another one than that to which they go.
+  abbrev IsOriginal : (t : ℕ) → Value → (to : ℕ) → List Value → Type 0
+  IsOriginal t p to vs = (original : Original known.program.types s.heap t vs) × IsElsewhere known.program.types s.heap t vs original p to
+
+  copied_in : (p : Value) (t first count : ℕ) (vs below : List Value) (next : Control) (rooms : Rooms) (holds : Holds) → length vs ≡ width_of types t → NameThere s.heap vs → IsOriginal t p first vs → StoresSo known s.heap p t first count next rooms holds → StoresFrom known s.heap (in_front vs below) p first count next rooms holds
+  copied_in p t first count vs below next rooms holds many names original (inl r) = inl r
+  copied_in p t first count vs below next rooms holds many names original (inr r) =
+      inr (
+        t,
+        r,
+        copied_from p t first count vs below next rooms holds many names r,
+        subst (IsOriginal t p first) (sym (copied_back p t first count vs below next rooms holds many r)) original,
+      )
 
   -- A record is copied: null raises Constraint_Error.
-  copied_on : (next : Control) (o : Id) (there : IsThere s.heap o) (t : ℕ) (below : List Value) (found : Option (List Value)) → ((vs : List Value) → found ≡ Some vs → length vs ≡ width_of types t) → ((vs : List Value) → found ≡ Some vs → NameThere s.heap vs) → Working known s.heap a.places s.masters (CopiesTo known s.heap a.places t below next) → Fine known s.heap s.masters (copied_next named (Names o) found (running next (record a { operands = below }) rest s))
-  copied_on next o there t below None many names w = tt
-  copied_on [] o there t below (Some vs) many names w = absurd w.rest
-  copied_on (Fills items ∷ k') o there t below (Some vs) many names w =
-      stays known (Followed (Names o)) (running (Fills items ∷ k') (record a { operands = in_front vs below }) rest s)
-      (tt, at_work w (w.rest.2 vs (many vs refl ∙ width_is t w.rest.0 w.rest.1) (names vs refl))) (followed o there)
-  copied_on (StoresRecord p first count ∷ k') o there t below (Some vs) many names w =
-      stays known (Followed (Names o)) (running (StoresRecord p first count ∷ k') (record a { operands = in_front vs below }) rest s)
-      (tt, at_work w (copied_in p t first count vs below k' w.rooms w.holds (many vs refl) (names vs refl) w.rest)) (followed o there)
-  copied_on (f ∷ k') o there t below (Some vs) many names w = absurd w.rest
+  module _ (from t : ℕ) (o : Id) (there : IsThere s.heap o) (rs : List ComponentKind) (components : record_components known.program.types t ≡ Some rs) (lies : (part : ℕ) × PartsLie known.program.types (object_named known.program.types (Some there.0.cell.access)) (Some t) from part) where
+    -- The record that is copied.
+    abbrev original_of : (vs : List Value) → record_in there.0.cell.values from (width_of types t) ≡ Some vs → length vs ≡ width_of types t → Original known.program.types s.heap t vs
+    original_of vs found many = record {
+      source = o;
+      first = from;
+      part = lies.0;
+      object = there.0;
+      found = there.1;
+      there = there.2;
+      lies = lies.1;
+      counted = many ∙ width_is t rs components ∙ sym (ap count_found components);
+      holds = λ d v at.
+          let whole : take (width_of types t) (drop from there.0.cell.values) ≡ vs = whole_is (width_of types t) (take (width_of types t) (drop from there.0.cell.values)) vs found in
+          let here : slice_get (take (width_of types t) (drop from there.0.cell.values)) d ≡ Some v = ap (λ (us : List Value). slice_get us d) whole ∙ at in
+          sym (get_drop there.0.cell.values from d) ∙ some_taken (width_of types t) (drop from there.0.cell.values) d v here;
+    }
 
-  pub copies_fine : (first t : ℕ) (v : Value) (below : List Value) → Working known s.heap a.places s.masters (λ rooms holds. MayFollow s.heap v × RaisesAt known v [] k rooms holds × CopiesTo known s.heap a.places t below k rooms holds) → Fine known s.heap s.masters (copies_next named v first (width_of types t) (look s.heap v) (running k (record a { operands = below }) rest s))
-  copies_fine first t Null below w = jumps_less known k (record a { operands = below }) rest s (Raising ConstraintError) (at_work w (w.rest.1 refl))
-  copies_fine first t (Names o) below w =
+    copied_on : (next : Control) (below : List Value) (found : Option (List Value)) → record_in there.0.cell.values from (width_of types t) ≡ found → ((vs : List Value) → found ≡ Some vs → length vs ≡ width_of types t) → ((vs : List Value) → found ≡ Some vs → NameThere s.heap vs) → Working known s.heap a.places s.masters (λ rooms holds. CopiesElsewhere known.program.types t from (Names o) next × CopiesTo known s.heap a.places t below next rooms holds) → Fine known s.heap s.masters (copied_next named (Names o) found (running next (record a { operands = below }) rest s))
+    copied_on next below None is many names w = tt
+    copied_on [] below (Some vs) is many names w = absurd w.rest.1
+    copied_on (Fills items ∷ k') below (Some vs) is many names w =
+        let fills = w.rest.1 in
+        stays known (Followed (Names o)) (running (Fills items ∷ k') (record a { operands = in_front vs below }) rest s)
+        (tt, at_work w (fills.2 vs (many vs refl ∙ width_is t fills.0 fills.1) (names vs refl) (original_of vs is (many vs refl)))) (followed o there)
+    copied_on (StoresRecord p first count ∷ k') below (Some vs) is many names w =
+        stays known (Followed (Names o)) (running (StoresRecord p first count ∷ k') (record a { operands = in_front vs below }) rest s)
+        (tt, at_work w (copied_in p t first count vs below k' w.rooms w.holds (many vs refl) (names vs refl) (original_of vs is (many vs refl), w.rest.0) w.rest.1)) (followed o there)
+    copied_on (f ∷ k') below (Some vs) is many names w = absurd w.rest.1
+
+  -- Typing says where it lies.
+  lies_typed :
+      (first t : ℕ) (o : Id) (object : Object) (below : List Value) (kinds : List OperandKind) → object_at s.heap o ≡ Some object
+      → typed.Fits known.program (cells_of s.heap) kinds (Copies first t ∷ k) → AreComputed known.program.types (cells_of s.heap) kinds (Names o ∷ below)
+      → ((rs : List ComponentKind) × (record_components known.program.types t ≡ Some rs))
+      × ((part : ℕ) × PartsLie known.program.types (object_named known.program.types (Some object.cell.access)) (Some t) first part)
+  lies_typed first t o object below kinds found (ks, access, rs, is, components, lies, parts, more) computed =
+      let newest : AreComputed known.program.types (cells_of s.heap) (of_kind (variable.Access access) ∷ ks) (Names o ∷ below) = rw is at computed in
+      let of : Some access.0 ≡ Some object.cell.access = kind_names known.program.types s.heap (variable.Access access) o object newest.0 found in (
+        (rs, components),
+        subst (λ (n : Option ℕ). (part : ℕ) × PartsLie known.program.types (object_named known.program.types n) (Some t) first part) of parts,
+      )
+
+  pub copies_fine : (first t : ℕ) (v : Value) (below : List Value) (kinds : List OperandKind) → typed.Fits known.program (cells_of s.heap) kinds (Copies first t ∷ k) → AreComputed known.program.types (cells_of s.heap) kinds (v ∷ below) → Working known s.heap a.places s.masters (λ rooms holds. MayFollow s.heap v × RaisesAt known v [] k rooms holds × (CopiesElsewhere known.program.types t first v k × CopiesTo known s.heap a.places t below k rooms holds)) → Fine known s.heap s.masters (copies_next named v first (width_of types t) (look s.heap v) (running k (record a { operands = below }) rest s))
+  copies_fine first t Null below kinds fits computed w = jumps_less known k (record a { operands = below }) rest s (Raising ConstraintError) (at_work w (w.rest.1 refl))
+  copies_fine first t (Names o) below kinds fits computed w =
       let there : IsThere s.heap o = w.rest.0 in
       let looks : look s.heap (Names o) ≡ finds there.0.cell = rw (there.1, (w.stored.sane o there.0 there.1).there_exists there.2) refl in
-      rw looks (copied_on k o there t below (record_in there.0.cell.values first (width_of types t)) (λ vs is. whole_length (width_of types t) (take (width_of types t) (drop first there.0.cell.values)) vs is)
+      let typed_so = lies_typed first t o there.0 below kinds there.1 fits computed in
+      rw looks (copied_on first t o there typed_so.0.0 typed_so.0.1 typed_so.1 k below (record_in there.0.cell.values first (width_of types t)) refl
+      (λ vs is. whole_length (width_of types t) (take (width_of types t) (drop first there.0.cell.values)) vs is)
       (λ vs is. rw (← whole_is (width_of types t) (take (width_of types t) (drop first there.0.cell.values)) vs is)
       (names_take s.heap (width_of types t) (drop first there.0.cell.values) (names_drop s.heap first there.0.cell.values (names_all s.heap there.0.cell.values (components_there s.heap o there.0 there.1 w.fit there.2)))))
       (at_work w w.rest.2))
-  copies_fine first t (Scalar n) below w = tt
-  copies_fine first t (Part object_id base) below w = tt
+  copies_fine first t (Scalar n) below kinds fits computed w = tt
+  copies_fine first t (Part object_id base) below kinds fits computed w = tt
 
   -- The object in which a record lies that is assigned to is found: its items come next.
   plain_there : (first t : ℕ) (o : Id) (object : Object) (below : List Value) (kinds : List OperandKind) → object_at s.heap o ≡ Some object → is_there object.stage ≡ true → is_owning_record known.program.types t ≡ false → (items : List ItemForm) → typed.Fits known.program (cells_of s.heap) kinds (TargetsRecord first t items ∷ k) → AreComputed known.program.types (cells_of s.heap) kinds (Names o ∷ below) → IsPlainIn known s.heap (Names o) first (width_of types t)
@@ -322,19 +393,31 @@ module _ (known : Known) (types : List TypeDefinition) (reaches : Reaches known 
     hidden_works : Hides (outers known) known.program.types known.program.variables s.heap a.places s.masters w.holds view object stores → Working known (blanked view stores) a.places s.masters (λ rooms holds. To (λ less. RunsOn known to.behind rooms less × AdjustsAside known object.cell.access t less) holds)
     hidden_works h = record { rooms = w.rooms; holds = w.holds; stored = stored_hidden view h.object h.found h.stored; roomed = w.roomed; fit = h.fit; rest = to.runs }
 
+    -- It is a copy of another record.
+    copied_so : (original : Original known.program.types s.heap t values) → IsElsewhere known.program.types s.heap t values original (Names o) first
+        → (h : Hides (outers known) known.program.types known.program.variables s.heap a.places s.masters w.holds view object stores)
+        → CopiedFrom known.program.types stores o t to.left.first hidden h.object.cell.values
+    copied_so original elsewhere h =
+        subst (λ (n : ℕ). CopiedFrom known.program.types stores o t n hidden h.object.cell.values) (sym to.begins)
+        (copied_stored known.program.types s.heap t values original o object first hidden found elsewhere h.object h.found)
+
+    -- The record that is copied, which is another one.
+    abbrev IsCopied : Type 0
+    IsCopied = (original : Original known.program.types s.heap t values) × IsElsewhere known.program.types s.heap t values original (Names o) first
+
     -- What is left of its adjustment, where the object is known by this type.
     abbrev LeftOf : (vs : List Value) → (access : ℕ) → Type 0
     LeftOf vs access =
-        CopyLeft known.program.types access t to.tasks
+        ((left : CopyLeft known.program.types access t to.tasks) × AreCopied known.program.types stores o t left.first (owners_left known.program.types access to.tasks) vs)
         × NameThere stores (values_at (owners_left known.program.types access to.tasks) vs)
         × Working known (blanked (hiding (owners_left known.program.types access to.tasks) o) stores) a.places s.masters (λ rooms holds. RunsOn known to.behind rooms holds × AdjustsAside known access t holds)
 
-    adjusts_next : Hides (outers known) known.program.types known.program.variables s.heap a.places s.masters w.holds view object stores → AdjustsTo known (Names o) to.tasks to.behind stores a.places s.masters
-    adjusts_next h =
+    adjusts_next : Hides (outers known) known.program.types known.program.variables s.heap a.places s.masters w.holds view object stores → IsCopied → AdjustsTo known (Names o) to.tasks to.behind stores a.places s.masters
+    adjusts_next h original =
         let works = hidden_works h in
         let named : NameThere stores (values_at hidden h.object.cell.values) = subst (λ (cs : List ℕ). NameThere stores (values_at cs h.object.cell.values)) (shifted_none hidden) h.named in
         let here : LeftOf h.object.cell.values object.cell.access =
-        (to.left, named, at_less {other = λ rooms less. RunsOn known to.behind rooms less × AdjustsAside known object.cell.access t less} works works.rest) in
+        ((to.left, inr (copied_so original.0 original.1 h)), named, at_less {other = λ rooms less. RunsOn known to.behind rooms less × AdjustsAside known object.cell.access t less} works works.rest) in
         let there : LeftOf h.object.cell.values h.object.cell.access = subst (LeftOf h.object.cell.values) (sym h.access) here in
         record {
           o = o;
@@ -343,21 +426,22 @@ module _ (known : Known) (types : List TypeDefinition) (reaches : Reaches known 
           found = h.found;
           there = rw (h.stage) listed;
           record_type = t;
-          left = there.0;
+          left = there.0.0;
           named = there.1;
+          copied = there.0.1;
           works = there.2;
         }
 
-    adjusts_ready : Hides (outers known) known.program.types known.program.variables s.heap a.places s.masters w.holds view object stores → ReadyIn known Running k stores a.places (drop count a.operands) s.masters
-    adjusts_ready h =
+    adjusts_ready : Hides (outers known) known.program.types known.program.variables s.heap a.places s.masters w.holds view object stores → IsCopied → ReadyIn known Running k stores a.places (drop count a.operands) s.masters
+    adjusts_ready h original =
         subst (λ (c : Control). ReadyIn known Running c stores a.places (drop count a.operands) s.masters) (sym to.is)
-        (treats_ready known (Names o) (frame.begins (Adjustment to.number) []) to.tasks to.behind stores a.places (drop count a.operands) s.masters (adjusts_next h) tt)
+        (treats_ready known (Names o) (frame.begins (Adjustment to.number) []) to.tasks to.behind stores a.places (drop count a.operands) s.masters (adjusts_next h original) tt)
 
-    stored_adjusted : (before : Option (List Value)) → StoresWell shown first values → NameThere s.heap (take count a.operands) → Fine known s.heap s.masters (record_stored_next named (Names o) first values before (running k (record a { operands = drop count a.operands }) rest s))
-    stored_adjusted None well names = tt
-    stored_adjusted (Some before) well names =
+    stored_adjusted : (before : Option (List Value)) → StoresWell shown first values → NameThere s.heap (take count a.operands) → IsCopied → Fine known s.heap s.masters (record_stored_next named (Names o) first values before (running k (record a { operands = drop count a.operands }) rest s))
+    stored_adjusted None well names original = tt
+    stored_adjusted (Some before) well names original =
         let h = hides well names in
-        record { ready = (tt, adjusts_ready h); alters = h.alters; says = followed o (object, found, listed) }
+        record { ready = (tt, adjusts_ready h original); alters = h.alters; says = followed o (object, found, listed) }
 
   pub store_record_fine : (o : Value) (first count : ℕ) (kinds : List OperandKind) → typed.Fits known.program (cells_of s.heap) kinds (StoresRecord o first count ∷ k) → AreComputed known.program.types (cells_of s.heap) kinds a.operands → Working known s.heap a.places s.masters (StoresFrom known s.heap a.operands o first count k) → Fine known s.heap s.masters (store_record_next named o first count (look s.heap o) (running k a rest s))
   store_record_fine v first count kinds fits computed w = by v fits w.rest
@@ -377,7 +461,7 @@ module _ (known : Known) (types : List TypeDefinition) (reaches : Reaches known 
       by (Names o) fits' (inr r) =
           let p = r.1 in
           let looks : look s.heap (Names o) ≡ finds p.0.cell = rw (p.1, (w.stored.sane o p.0 p.1).there_exists p.2) refl in
-          rw looks (stored_adjusted o p.0 r.0 first count p.1 p.2 w p.3 (record_in p.0.cell.values first count) (well_stored o p.0 r.0 first count p.1 p.2 w p.3 kinds fits' computed) r.2)
+          rw looks (stored_adjusted o p.0 r.0 first count p.1 p.2 w p.3 (record_in p.0.cell.values first count) (well_stored o p.0 r.0 first count p.1 p.2 w p.3 kinds fits' computed) r.2 r.3)
 
 -- A record is assigned to: its object is found first.
 pub record_begins : (known : Known) (a : Activation Value) (rest : List (Activation Value)) (s : State) → CopiesWell known.program.types → (target : RecordPathForm) (items : List ItemForm) (fs : StmtsForm) (k : Control) → shown_number known.program.types (Some target.record_type) ≡ None → RecordThere known.program.types known.program.variables target → Working known s.heap a.places s.masters (λ rooms holds. Goes (gives_record known.program.types known.program.variables no_tracks (λ u. assignment_frees known.implicit u target.record_type) target items holds) (RunsOn known (Does fs ∷ k) rooms) (Raised (λ e. stmt_raises (effects_of known.implicit known.program) (is_same e) (assigns_record target items)) (ways known k rooms))) → Fine known s.heap s.masters (record_holder_next named target (λ place. TargetsRecord place.component target.record_type items) (running (Does fs ∷ k) a rest s))

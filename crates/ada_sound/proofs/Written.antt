@@ -2,7 +2,7 @@
 
 use Rattle.std.proofs.Common.{◌≡◌, ◌≢◌, ℕ, List, [], ◌∷◌, refl, sym, ap, subst, ◌∙◌, ◌⊎◌, inl, inr}
 use Rattle.std.specs.Prelude.{Option, Some, None}
-use Rattle.std.specs.List.{slice_set}
+use Rattle.std.specs.List.{slice_get, slice_set}
 use Rattle.ada_parts.specs.Task.{Task}
 use Rattle.ada_flow.specs.Flow.{Holds}
 use Rattle.ada_meaning.specs.declared.event.Birth.TheVariants.{Creation, Copy, Adjustment}
@@ -19,9 +19,10 @@ use Rattle.ada_owners.proofs.Objects.{at_other}
 use Rattle.ada_owners.proofs.Changes.{store_is}
 use Rattle.ada_tracked.specs.Frames.{watched, number_of, blank_object, blanked, values_at}
 use Rattle.ada_tracked.proofs.Heaps.{blanked_here, store_untracked, store_tracked}
-use Rattle.ada_sound.proofs.Objects.{set_here, set_twice}
+use Rattle.ada_sound.proofs.Objects.{set_get, set_here, set_other, set_twice}
 use Rattle.ada_sound.proofs.Stored.{stored_filled}
 use Rattle.ada_sound.proofs.Fits.{Fit, none_spared, store_blank, wrote_unnamed, gone_fit}
+use Rattle.ada_sound.proofs.Originals.{copied_changed}
 use Rattle.ada_sound.proofs.AdjustsKept.{adjusts_set}
 use Rattle.ada_sound.proofs.CopiedOwners.{NameThere, names_still, hiding}
 use Rattle.ada_sound.proofs.HiddenOwners.{names_set as names_replaced}
@@ -140,7 +141,7 @@ module _ (c : ℕ) (v : Value) (nameless : (p : Id) → v ≡ Names p → ⊥) w
           (r.0, rw named_so (ending_set places k e one))
       ends_set u places (f ∷ k) is r = absurd r
 
-  module _ (known : Known) (ms : List Master) (heap : List Object) (o : Id) (x : Object) (found : object_at heap o ≡ Some x) where
+  module _ (known : Known) (ms : List Master) (heap : List Object) (o : Id) (x : Object) (found : object_at heap o ≡ Some x) (was : (p : Id) → slice_get x.cell.values c ≡ Some (Names p) → ⊥) where
     -- What gets the name of a new object gets it still.
     put_set : (h : Value) (d : ℕ) (w : Value) (places : List Value) (k : Control) → IsHolder heap h × Working known (store heap h d w) places ms (RunsOn known k) → IsHolder (slice_set heap o.0 (wrote x)) h × Working known (store (slice_set heap o.0 (wrote x)) h d w) places ms (RunsOn known k)
     put_set Null d w places k r = absurd r.0
@@ -204,9 +205,20 @@ module _ (c : ℕ) (v : Value) (nameless : (p : Id) → v ≡ Names p → ⊥) w
         names_still heap (slice_set heap o.0 (wrote x)) (values_at owners (wrote x).cell.values) (there_set heap o x found)
         (names_replaced heap owners x.cell.values c v (λ p is. absurd (nameless p is)) there)
 
+    -- Components name what they named.
+    named_before : (d : ℕ) (p : Id) → slice_get (wrote x).cell.values d ≡ Some (Names p) → slice_get x.cell.values d ≡ Some (Names p)
+    named_before d p at = elim (set_get x.cell.values c d v (Names p) at) [ inl here ↦ absurd (nameless p (sym here.1)) | inr there ↦ there.1 ]
+
+    named_still : (d : ℕ) (p : Id) → slice_get x.cell.values d ≡ Some (Names p) → slice_get (wrote x).cell.values d ≡ Some (Names p)
+    named_still d p at = elim (same_or_not d c) [
+      | inl same ↦ absurd (was p (ap (λ (n : ℕ). slice_get x.cell.values n) (sym same) ∙ at))
+      | inr ne ↦ set_other x.cell.values c d v ne ∙ at
+    ]
+
     copy_set : (tasks : List Task) (places : List Value) (k : Control) → AdjustsTo known (Names o) tasks k heap places ms → AdjustsTo known (Names o) tasks k (slice_set heap o.0 (wrote x)) places ms
     copy_set tasks places k to =
-        adjusts_set known heap places ms o x (wrote x) found refl refl names_kept (λ owners more w. hidden_set owners places more w) (Names o) tasks k refl to
+        adjusts_set known heap places ms o x (wrote x) found refl refl names_kept
+        (λ r to owners copied. copied_changed known.program.types heap o x (wrote x) found refl refl named_before named_still r to owners copied) (λ owners more w. hidden_set owners places more w) (Names o) tasks k refl to
 
     -- So does what is copied to a record that is assigned to.
     lies_set : (t : ℕ) (u : Value) → LiesIn known heap t u → LiesIn known (slice_set heap o.0 (wrote x)) t u
@@ -254,7 +266,7 @@ module _ (c : ℕ) (v : Value) (nameless : (p : Id) → v ≡ Names p → ⊥) w
     copies_set : (places operands : List Value) (k : Control) → CopiesBehind known k heap places operands ms → CopiesBehind known k (slice_set heap o.0 (wrote x)) places operands ms
     copies_set places operands [] r = absurd r
     copies_set places operands (Copies first t ∷ k) (copied, w) =
-        (copied, works_set heap o x found known ms (at_work w (lies_set t (first_or Null operands) w.rest.0, stores_set t k w.rooms w.holds w.rest.1, w.rest.2)))
+        (copied, works_set heap o x found known ms (at_work w ((lies_set t (first_or Null operands) w.rest.0.0, w.rest.0.1), stores_set t k w.rooms w.holds w.rest.1, w.rest.2)))
     copies_set places operands (f ∷ k) r = absurd r
 
     -- Whatever is behind the treatment of the object.

@@ -187,6 +187,7 @@ module _ (p : ProgramForm) (types : List TypeDefinition) (shown : map type_form 
         refl,
         recorded,
         here,
+        (from.part, source.3),
         (
           kinds,
           record { 0 = own },

@@ -204,7 +204,7 @@ abbrev mutual
   Fits p cells kinds (frame.Applies operator ∷ k) = (ks : List OperandKind) × (l : ScalarType) × (r : ScalarType) × (t : ScalarType) × (kinds ≡ of_kind (kind_of r) ∷ of_kind (kind_of l) ∷ ks) × (binary_type operator (Some l) (Some r) ≡ Some t) × Fits p cells (of_kind (kind_of t) ∷ ks) k
   Fits p cells kinds (frame.AppliesAlone operator ∷ k) = (ks : List OperandKind) × (l : ScalarType) × (t : ScalarType) × (kinds ≡ of_kind (kind_of l) ∷ ks) × (unary_type operator (Some l) ≡ Some t) × Fits p cells (of_kind (kind_of t) ∷ ks) k
   Fits p cells kinds (frame.Fills items ∷ k) = (cs : List ComponentKind) × (items_fit p.types p.variables cs items ≡ true) × Fits p cells (onto cs kinds) k
-  Fits p cells kinds (frame.Copies first t ∷ k) = (ks : List OperandKind) × (access : TypeNo) × (rs : List ComponentKind) × (kinds ≡ of_kind (variable.Access access) ∷ ks) × (record_components p.types t ≡ Some rs) × (has_record_at (reached_components p.types access.0) first (Some rs) ≡ true) × Fits p cells (onto rs ks) k
+  Fits p cells kinds (frame.Copies first t ∷ k) = (ks : List OperandKind) × (access : TypeNo) × (rs : List ComponentKind) × (kinds ≡ of_kind (variable.Access access) ∷ ks) × (record_components p.types t ≡ Some rs) × (has_record_at (reached_components p.types access.0) first (Some rs) ≡ true) × ((part : ℕ) × PartsLie p.types (object_named p.types (Some access.0)) (Some t) first part) × Fits p cells (onto rs ks) k
   Fits p cells kinds (frame.Creates access count ∷ k) = (ks : List OperandKind) × (cs : List ComponentKind) × (kinds ≡ onto cs ks) × (reached_components p.types access ≡ Some cs) × (count ≡ length cs) × Fits p cells (of_kind (variable.Access (record { 0 = access })) ∷ ks) k
   Fits p cells kinds (frame.Stores x ∷ k) = (ks : List OperandKind) × (kind : VariableKind) × (kinds ≡ of_kind kind ∷ ks) × (variable_kind p.variables x ≡ Some kind) × Fits p cells ks k
   Fits p cells kinds (frame.Targets c right ∷ k) = (ks : List OperandKind) × (access : TypeNo) × (kind : VariableKind) × (kinds ≡ of_kind (variable.Access access) ∷ ks) × (selected_kind p.types (Some (variable.Access access)) c ≡ Some kind) × (kind_takes p.types p.variables kind right ≡ true) × Fits p cells ks k
@@ -473,7 +473,7 @@ module _ (p : ProgramForm) where
   catches cells (frame.Applies operator ∷ k) kinds fits = catches cells k (of_kind (kind_of fits.3) ∷ fits.0) fits.6
   catches cells (frame.AppliesAlone operator ∷ k) kinds fits = catches cells k (of_kind (kind_of fits.2) ∷ fits.0) fits.5
   catches cells (frame.Fills items ∷ k) kinds fits = catches cells k (onto fits.0 kinds) fits.2
-  catches cells (frame.Copies first t ∷ k) kinds fits = catches cells k (onto fits.2 fits.0) fits.6
+  catches cells (frame.Copies first t ∷ k) kinds fits = catches cells k (onto fits.2 fits.0) fits.7
   catches cells (frame.Creates access count ∷ k) kinds fits = catches cells k (of_kind (variable.Access (record { 0 = access })) ∷ fits.0) fits.5
   catches cells (frame.Stores x ∷ k) kinds fits = catches cells k fits.0 fits.4
   catches cells (frame.Targets c right ∷ k) kinds fits = catches cells k fits.0 fits.6

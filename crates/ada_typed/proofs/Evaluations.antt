@@ -602,7 +602,7 @@ module _ (p : ProgramForm) where
       (λ access place rs recorded lies parts.
       let left : items_fit p.types p.variables (drop (length rs) cs) items ≡ true = ap (λ (o : Option (List ComponentKind)). items_fit p.types p.variables (drop (width_in o) cs) items) (sym recorded) ∙ later in
       let same : onto (drop (length rs) cs) (onto rs kinds) ≡ onto cs kinds = onto_record cs rs kinds (begun (record_components p.types q.record_type) rs cs recorded begins) in
-      (kinds, access, rs, refl, recorded, lies, (drop (length rs) cs, left, subst (λ (ks : List OperandKind). Fits p (cells_of s.heap) ks s.control) (sym same) fits)))
+      (kinds, access, rs, refl, recorded, lies, (place.part, parts), (drop (length rs) cs, left, subst (λ (ks : List OperandKind). Fits p (cells_of s.heap) ks s.control) (sym same) fits)))
 
   item_fine : (item : ItemForm) (items : List ItemForm) (cs : List ComponentKind) (s : State) (kinds : List OperandKind) → Ready p kinds s → item_fits p.types p.variables cs item ≡ true → items_fit p.types p.variables (drop (item_width p.types item) cs) items ≡ true → Fits p (cells_of s.heap) (onto cs kinds) s.control → Fine p (item_next named item (at (frame.Fills items ∷ s.control) s))
   item_fine null_item items cs s kinds ready is later fits = first_fine null_item items cs s kinds ready is later fits

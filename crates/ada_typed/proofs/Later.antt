@@ -75,7 +75,7 @@ module _ (p : ProgramForm) (cells after : Cells) (stay : StayDesignated cells af
     fits_later (frame.Applies operator ∷ k) kinds h = (h.0, h.1, h.2, h.3, h.4, h.5, fits_later k (of_kind (kind_of h.3) ∷ h.0) h.6)
     fits_later (frame.AppliesAlone operator ∷ k) kinds h = (h.0, h.1, h.2, h.3, h.4, fits_later k (of_kind (kind_of h.2) ∷ h.0) h.5)
     fits_later (frame.Fills items ∷ k) kinds h = (h.0, h.1, fits_later k (onto h.0 kinds) h.2)
-    fits_later (frame.Copies first t ∷ k) kinds h = (h.0, h.1, h.2, h.3, h.4, h.5, fits_later k (onto h.2 h.0) h.6)
+    fits_later (frame.Copies first t ∷ k) kinds h = (h.0, h.1, h.2, h.3, h.4, h.5, h.6, fits_later k (onto h.2 h.0) h.7)
     fits_later (frame.Creates access count ∷ k) kinds h = (h.0, h.1, h.2, h.3, h.4, fits_later k (of_kind (variable.Access (record { 0 = access })) ∷ h.0) h.5)
     fits_later (frame.Stores x ∷ k) kinds h = (h.0, h.1, h.2, h.3, fits_later k h.0 h.4)
     fits_later (frame.Targets c right ∷ k) kinds h = (h.0, h.1, h.2, h.3, h.4, h.5, fits_later k h.0 h.6)

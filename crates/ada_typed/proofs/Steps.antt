@@ -406,7 +406,7 @@ module _ (p : ProgramForm) (fit : TablesFit p) (bodies : List BodyForm) (sees : 
   frame_fine types shown (frame.Copies first t) stays plain s kinds ready deep fits =
       let taken = ready_kinds p kinds (of_kind (variable.Access fits.1) ∷ fits.0) s fits.3 ready in
       subst (λ (m : ℕ). Fine p (copies_next named (newest named s) first m (look s.heap (newest named s)) (popped s))) (sym (width_shown types t fits.2 shown fits.4))
-      (copies_fine p (newest named s) fits.1 first fits.2 (popped s) fits.0 (ready_pop p (variable.Access fits.1) fits.0 s taken) (newest_of p (variable.Access fits.1) fits.0 s taken) fits.5 fits.6)
+      (copies_fine p (newest named s) fits.1 first fits.2 (popped s) fits.0 (ready_pop p (variable.Access fits.1) fits.0 s taken) (newest_of p (variable.Access fits.1) fits.0 s taken) fits.5 fits.7)
   frame_fine types shown (frame.Creates access count) stays plain s kinds ready deep fits =
       let taken = ready_kinds p kinds (onto fits.1 fits.0) s fits.2 ready in
       subst (λ (m : ℕ). Fine p (new_next named types access m (words_of types access) (home_of access s.masters) s)) (sym fits.4)
