@@ -1,6 +1,6 @@
 -- A body that has been called follows a component beside a hidden one; another one reads a hidden one, and one writes one.
 
-use Rattle.std.proofs.Common.{◌≡◌, ℕ, true, false, List, [], ◌∷◌, Option, Some, None, refl, ap}
+use Rattle.std.proofs.Common.{◌≡◌, ℕ, true, false, List, [], ◌∷◌, Option, Some, None, refl, ap, ◌∙◌}
 use Rattle.std.specs.List.{slice_get}
 use Rattle.ada_program.specs.Form.{value_of, no_stmts}
 use Rattle.ada_program.specs.ProgramForm.{nowhere}
@@ -12,12 +12,12 @@ use Rattle.ada_meaning.specs.declared.state.Value.TheVariants.{Null, Names}
 use Rattle.ada_meaning.specs.Frame.{Frame}
 use Rattle.ada_meaning.specs.Frame as frame
 use Rattle.ada_meaning.specs.Records.{component_in}
-use Rattle.ada_meaning.specs.State.{Activation}
-use Rattle.ada_meaning.specs.Step.{moves, computed, newest}
+use Rattle.ada_meaning.specs.State.{Activation, collection}
+use Rattle.ada_meaning.specs.Step.{asks, moves, computed, newest}
 use Rattle.ada_meaning.specs.Named.{Object, State, Next, named, object_at, next}
 use Rattle.ada_tracked.specs.Frames.{View}
 use Rattle.ada_waiting.specs.Before.{Waiting}
-use Rattle.ada_hidden.specs.Example.{FollowsBeside, PremisesAreMet, StepsDiffer, ReadsHidden, WritesHidden, PremisesAreNeeded}
+use Rattle.ada_hidden.specs.Example.{FollowsBeside, PremisesAreMet, StepsDiffer, ReadsHidden, WritesHidden, CreatesHidden, PremisesAreNeeded}
 
 abbrev holder : Id
 holder = record { 0 = 0 }
@@ -117,5 +117,34 @@ stays_there same = let clash : Some (Names holder) ≡ Some Null = ap held same.
 writes_hidden : WritesHidden [] [] view (waiting []) writing
 writes_hidden = record { runs = tt; there = (an_object (Names other ∷ Names other ∷ []), refl); untouched = refl; differ = stays_there }
 
+-- A third object is created, whose component is the newest operand, and hidden.
+abbrev third : View
+third = record { tracks = record { first = 0; components = 0 ∷ [] }; object = record { 0 = 2 }; base = 0 }
+
+abbrev creating : State
+creating = record (body (Names holder ∷ []) (frame.Creates 0 1 ∷ [])) {
+  masters = record { number = 1; items = record { number = 1; owned = collection 0 (Some 0) } ∷ [] } ∷ [];
+}
+
+-- What that component holds, in a state, and behind a step if the request is granted.
+abbrev component_held : State → Option Value
+component_held s = component_in (object_at s.heap (record { 0 = 2 })) 0
+
+abbrev granted_held : Next → Option Value
+granted_held (asks request answers) = component_held (answers true)
+granted_held n = None
+
+holds_name : StepsDiffer [] [] third (waiting []) creating
+unfolding next
+holds_name same =
+    let clash : Some (Names holder) ≡ Some Null = ap granted_held same.3 ∙ ap component_held (same.4 true).hidden_in_front in absurd (cc clash)
+
+creates_hidden : CreatesHidden [] [] third (waiting []) creating
+creates_hidden = record { runs = tt; untouched = tt; unwritten = tt; differ = holds_name }
+
 pub premises_are_needed : PremisesAreNeeded
-premises_are_needed = (([], [], view, waiting [], reading (1 ∷ []), reads_hidden), ([], [], view, waiting [], writing, writes_hidden))
+premises_are_needed = (
+  ([], [], view, waiting [], reading (1 ∷ []), reads_hidden),
+  ([], [], view, waiting [], writing, writes_hidden),
+  ([], [], third, waiting [], creating, creates_hidden),
+)

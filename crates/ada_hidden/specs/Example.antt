@@ -57,8 +57,16 @@ pub record WritesHidden (types : List TypeDefinition) (bodies : List BodyForm) (
   pub untouched : Untouched types (is_hidden v) no_ghosts front
   pub differ : StepsDiffer types bodies v w front
 
+-- Or the object in which they are to be hidden is not there yet, and it creates it.
+pub record CreatesHidden (types : List TypeDefinition) (bodies : List BodyForm) (v : View) (w : Waiting Value) (front : State) : Type 0 where
+  pub runs : RunsItself front.control front.activations
+  pub untouched : Untouched types (is_hidden v) no_ghosts front
+  pub unwritten : Unwritten (is_hidden v) front
+  pub differ : StepsDiffer types bodies v w front
+
 -- Each of them is somewhere.
 abbrev pub PremisesAreNeeded : Type 0
 PremisesAreNeeded =
     ((types : List TypeDefinition) × (bodies : List BodyForm) × (v : View) × (w : Waiting Value) × (front : State) × ReadsHidden types bodies v w front)
     × ((types : List TypeDefinition) × (bodies : List BodyForm) × (v : View) × (w : Waiting Value) × (front : State) × WritesHidden types bodies v w front)
+    × ((types : List TypeDefinition) × (bodies : List BodyForm) × (v : View) × (w : Waiting Value) × (front : State) × CreatesHidden types bodies v w front)

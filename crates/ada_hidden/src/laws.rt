@@ -17,7 +17,8 @@ pub fn premises_are_met()
     ensures { PremisesAreMet }
 {}
 
-/// They are needed: where a body reads a hidden component, it finds something else in it, and what it writes there stays in both states.
+/// They are needed: where a body reads a hidden component, it finds something else in it; what it writes there stays in both states; and
+/// where the object is not there yet, it may be created, and nothing of it is hidden then.
 pub fn premises_are_needed()
     ensures { PremisesAreNeeded }
 {}

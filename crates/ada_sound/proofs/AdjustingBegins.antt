@@ -411,7 +411,7 @@ module _ (program : Program) (number : ℕ) (b : BodyForm) (there : slice_get (p
           tracking = tracking;
           may = may;
           silent = silent;
-          bodies = (refl, stands.body, stands.behind, stands.bodies);
+          bodies = (refl, stands.body, stands.behind, stands.bodies, refl);
           standing = record {
             suspended = (refl, stands.standing.suspended);
             waiting = (inr (record { roomed = at.works.roomed; covers = covers; operated = subst IsAwaited (sym awaited.1) tt }), stands.standing.waiting);

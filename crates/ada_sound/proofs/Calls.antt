@@ -13,6 +13,7 @@ use Rattle.ada_effects.specs.Effects.{call_raises, call_frees, body_frees, effec
 use Rattle.ada_flow.specs.declared.rule.Hold.{Hold}
 use Rattle.ada_flow.specs.declared.rule.Hold.TheVariants as hold
 use Rattle.ada_flow.specs.Flow.{Holds, hold_at, variable_access, left_unkept, handed_back, gives_back, first_holds, gone_with}
+use Rattle.ada_flow.specs.Tracking.{no_tracks}
 use Rattle.ada_program.specs.WellFormed.{is_access, variable_kind, actuals_fit, modes_fit, formal_kinds}
 use Rattle.ada_meaning.specs.declared.state.Id.{Id}
 use Rattle.ada_meaning.specs.declared.state.Value.{Value}
@@ -109,6 +110,7 @@ module _ (program : Program) (number : ℕ) (b : BodyForm) (given : List ActualF
   abbrev pub suspended : Rooms → Holds → Suspension
   suspended rooms holds = record {
     procedure = a.procedure;
+    tracks = no_tracks;
     actuals = given;
     passed = values;
     references = references;
@@ -339,7 +341,7 @@ module _ (program : Program) (number : ℕ) (b : BodyForm) (given : List ActualF
             stands = record {
               body = (b, callee_get (program_form program) a.procedure number b stands.body w.rest.0);
               behind = (given, references, k, refl);
-              bodies = (refl, stands.body, stands.behind, stands.bodies);
+              bodies = (refl, stands.body, stands.behind, stands.bodies, refl);
               standing = record {
                 suspended = (refl, stands.standing.suspended);
                 waiting = (inl caller_waits, stands.standing.waiting);

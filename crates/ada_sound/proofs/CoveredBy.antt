@@ -18,7 +18,7 @@ use Rattle.ada_sound.specs.Callees as callees
 use Rattle.ada_sound.specs.Callees.{IsCovered}
 use Rattle.ada_sound.proofs.Bodies.{IsBody, seen_is, effect_at}
 use Rattle.ada_sound.proofs.Invariant.{Says, CoveredIn, AllWait, waits_covers}
-use Rattle.ada_sound.proofs.Callers.{Suspension, callers_of, known_in, AreOf, Stands}
+use Rattle.ada_sound.proofs.Callers.{Suspension, callers_of, covers_plainly, known_in, waits_plainly, AreOf, Stands}
 
 module _ (program : Program) where
   -- What a body may free, calls of its procedure may.
@@ -34,9 +34,10 @@ module _ (program : Program) where
   waiting_frees implicit body (b ∷ rest) [] t of waits may depth a number at is = absurd of
   waiting_frees implicit body (b ∷ rest) (g ∷ gs) t of waits may zero a number at is =
       let own : g.procedure ≡ Some number = cc (at, is, of.0) in
-      called_frees number t (rw own at (of.1)) (rw own at (waits_covers waits.0 t may))
+      called_frees number t (rw own at (of.1)) (rw own at (covers_plainly program g gs of.4 t (waits_covers waits.0 t may)))
   waiting_frees implicit body (b ∷ rest) (g ∷ gs) t of waits may (suc depth) a number at is =
-      waiting_frees (implicit_of (program_form program)) (seen_in g.procedure (program_form program)) rest gs t of.3 waits.1 (waits_covers waits.0 t may) depth a number at is
+      waiting_frees (implicit_of (program_form program)) (seen_in g.procedure (program_form program)) rest gs t of.3
+      (waits_plainly program g gs of.4 (callers_of program gs) waits.1) (covers_plainly program g gs of.4 t (waits_covers waits.0 t may)) depth a number at is
 
   -- What goes back by a Free is covered in each activation.
   pub all_free : (all : List (Activation Value)) (s : State) (gs : List Suspension) (t : ℕ) → s.activations ≡ all → Stands program gs s → CoveredIn (implicit_of (program_form program)) (seen_in (running_procedure s) (program_form program)) t → (depth : ℕ) (a : Activation Value) (number : ℕ) → slice_get all depth ≡ Some a → a.procedure ≡ Some number → call_frees (callees.effect_at program number) t ≡ true

@@ -89,7 +89,7 @@ Roomed below (m ∷ ms) (gone ∷ rooms) = ItemsAmong m.items gone.types × Room
 -- actual parameters of its call, their values, what refers to the components that get something back, the objects to which all that refers leads, those that are
 -- under way, as a treatment finalizes them, and what an operation is called for, as if a variable held it; what the procedure keeps of the parameters; what is
 -- left to do once the call has come to its end, the masters that are entered then, and their rooms; what its variables hold, and what is known of them behind the
--- call, as if nothing were handed over.
+-- call, as if nothing were handed over; and which of its variables stand for components that the body tracks (7.6).
 pub record Caller : Type 1 where
   pub implicit : Implicit
   pub program : ProgramForm
@@ -108,6 +108,7 @@ pub record Caller : Type 1 where
   pub rooms : Rooms
   pub places : List Value
   pub before : Holds
+  pub tracked : List ℕ
 
 -- What a caller's variables are relied on for during the call: what was handed over is not.
 abbrev pub waiting_holds : Caller → Holds
@@ -1652,7 +1653,7 @@ Ready known s = IsActive s.activations × ReadyIn known s.mode s.control s.heap 
 
 -- A caller as the body at work.
 abbrev pub known_of : Caller → List Caller → Known
-known_of w ws = record { implicit = w.implicit; program = w.program; ahead = w.ahead; touches = w.touches; At = w.At; callers = ws; tracked = [] }
+known_of w ws = record { implicit = w.implicit; program = w.program; ahead = w.ahead; touches = w.touches; At = w.At; callers = ws; tracked = w.tracked }
 
 -- The variable that an actual parameter hands over to a formal one of mode `in out` of an access type, if it does; and that of a formal parameter, by its
 -- number.

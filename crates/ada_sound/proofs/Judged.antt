@@ -5,21 +5,15 @@ use Rattle.std.specs.Prelude.{Some}
 use Rattle.ada_program.specs.declared.program.Program.{Program}
 use Rattle.ada_program.specs.ProgramForm.{ProgramForm, program_form, seen_in}
 use Rattle.ada_deeds.specs.Implicit.{implicit_of}
-use Rattle.ada_flow.specs.Tracking.{Tracks, judged, tracked_numbers}
-use Rattle.ada_tracked.specs.Forms.{seen_declarations, seen_stmts, seen_handlers}
+use Rattle.ada_flow.specs.Tracking.{Tracks, tracked_numbers}
 use Rattle.ada_sound.proofs.Ahead.{ahead_in}
 use Rattle.ada_sound.proofs.Touched.{touches_in}
-use Rattle.ada_sound.proofs.Callers.{Suspension, callers_of}
+use Rattle.ada_sound.proofs.Callers.{Suspension, callers_of, judged_form}
 use Rattle.ada_sound.proofs.Invariant.{Known}
 
 -- The program as the body sees it, where it is judged.
 abbrev pub judged_in : Tracks → ProgramForm → ProgramForm
-judged_in tracks p = record p {
-  variables = judged p.types tracks p.variables;
-  declarations = seen_declarations tracks p.declarations;
-  statements = seen_stmts tracks p.statements;
-  handlers = seen_handlers tracks p.handlers;
-}
+judged_in tracks p = judged_form tracks p
 
 -- What is known of the body of a procedure at work, as it is judged, that these have called. Nothing is said of the places to which flow comes in it.
 abbrev pub known_judged : Program → (number : ℕ) → Tracks → List Suspension → Known

@@ -386,7 +386,7 @@ module _ (program : Program) (a : Activation Value) (rest : List (Activation Val
       inl (
         crosses_to (calls_to program number b actuals k a rest o.suspensions s w ready.rest.1 (inside.heap_typed (seen_in a.procedure (program_form program)) (state_with Running (Calls number b actuals ∷ k) (a ∷ rest) s) grounds.typed.inside).1 stands (λ q x departed. none_departed s.heap out q x departed) (runs_called program number b actuals k a o.suspensions s grounds.well grounds.obeys (called_apart program (state_with Running (Calls number b actuals ∷ k) (a ∷ rest) s) number b actuals k refl grounds.obeys.0 grounds.apart) w stands.body ready.rest.1 rest stands)),
         calm,
-        ((never_awaited k calm, refl), o.settled),
+        ((never_awaited k calm, refl, refl), o.settled),
       )
   running_step (Returns actuals references) grounds out o low stays = leaving_step Running actuals references grounds o o.ready.1
   running_step (Treats v treatment tasks) grounds out o low stays = treating_step v treatment tasks grounds o out

@@ -9,6 +9,7 @@ use Rattle.ada_program.specs.declared.program.Program.{Program}
 use Rattle.ada_program.specs.Form.{ActualForm}
 use Rattle.ada_program.specs.ProgramForm.{TypeForm, BodyForm, ProgramForm, program_form, seen_at, seen_in}
 use Rattle.ada_flow.specs.Flow.{Holds, hold_at, handed_back, left_unkept, all_give_back}
+use Rattle.ada_flow.specs.Tracking.{no_tracks}
 use Rattle.ada_meaning.specs.declared.state.Value.{Value}
 use Rattle.ada_meaning.specs.declared.state.Mode.{Mode}
 use Rattle.ada_meaning.specs.declared.state.Mode.TheVariants.{Running, Raising, Exiting, Returning}
@@ -28,8 +29,8 @@ use Rattle.ada_sound.proofs.Stored.{Stored}
 use Rattle.ada_sound.proofs.Activations.{returned_fit}
 use Rattle.ada_sound.proofs.GivenBack.{gives_some, ArePlaced, since_back, said_back, objects_back, since_left, said_left, objects_left}
 use Rattle.ada_sound.proofs.Ready.{at_work, at_less, runs_stores, stores_ready, goes_ready, stays}
-use Rattle.ada_sound.proofs.Invariant.{held_first, outer_in, Known, Control, Rooms, Roomed, RunsOn, GoesOn, StoresOn, AreOpened, ReadyIn, Working, Stepped, Waits, WaitsSo, AllWait, IsAwaited, KeepsAll, below, outers, outer_of, owed_in, handed_at}
-use Rattle.ada_sound.proofs.Callers.{AreCalls, Suspension, caller_of, callers_of, known_in, Stands}
+use Rattle.ada_sound.proofs.Invariant.{held_first, outer_in, Known, Control, Rooms, Roomed, RunsOn, GoesOn, StoresOn, AreOpened, ReadyIn, Working, Stepped, Waits, WaitsSo, AllWait, IsAwaited, KeepsAll, below, outers, outer_of, owed_in, handed_at, known_of}
+use Rattle.ada_sound.proofs.Callers.{AreCalls, Suspension, caller_of, callers_of, form_types, known_in, known_plainly, waits_plainly, Stands}
 
 -- What a step from one body to another keeps: it is known what it leads to, and so are the callers.
 pub record Crosses (program : Program) (before : List Object) (e : Event) (after : State) : Type 0 where
@@ -60,13 +61,15 @@ module _ (program : Program) (procedure : Option ℕ) (g : Suspension) (gs : Lis
   callee = known_in program procedure (g ∷ gs)
 
   abbrev caller : Known
-  caller = known_in program g.procedure gs
+  caller = known_of (caller_of program g gs) (callers_of program gs)
 
   abbrev WaitsForIt : Type 0
   WaitsForIt = Waits callee.implicit callee.program (caller_of program g gs) (callers_of program gs)
 
   same_here : callee.program.types ≡ caller.program.types
-  same_here = same_types procedure (program_form program) ∙ sym (same_types g.procedure (program_form program))
+  same_here =
+      same_types procedure (program_form program)
+      ∙ sym (form_types g.tracks.components g.tracks (seen_in g.procedure (program_form program)) ∙ same_types g.procedure (program_form program))
 
   -- What is left to do behind the body is left to do in its caller.
   pub same_control : (mode : Mode) (actuals : List ActualForm) (references : List Value) (k : Control) (rooms : Rooms) (holds : Holds) → GoesOn callee mode (Returns actuals references ∷ k) rooms holds → k ≡ g.control
@@ -217,7 +220,8 @@ module _ (program : Program) (a : Activation Value) (actuals : List ActualForm) 
           bodies = stands.bodies.3;
           standing = record {
             suspended = stands.standing.suspended.1;
-            waiting = subst (λ (procedure : Option ℕ). AllWait (implicit_of (program_form program)) (seen_in procedure (program_form program)) (callers_of program gs)) (sym of) stands.standing.waiting.1;
+            waiting = subst (λ (procedure : Option ℕ). AllWait (implicit_of (program_form program)) (seen_in procedure (program_form program)) (callers_of program gs)) (sym of)
+                (waits_plainly program g gs stands.bodies.4 (callers_of program gs) stands.standing.waiting.1);
             low = stands.standing.low.3;
           };
         };
@@ -236,16 +240,32 @@ module _ (program : Program) (a : Activation Value) (actuals : List ActualForm) 
       resumes Running (storing named references k) (copied_back actuals a.places b.places) waiting b rest g gs stands
       (rw places (stores_ready (known_in program g.procedure gs) (storing named references k) s.heap (copied_back actuals a.places g.places) waiting s.masters w))
 
+  -- A caller whose body tracks nothing is known as its program says.
+  gets_plainly :
+      (g : Suspension) (gs : List Suspension) → g.tracks ≡ no_tracks
+      → Working (known_of (caller_of program g gs) (callers_of program gs)) s.heap (copied_back actuals a.places g.places) s.masters (StoresOn (known_of (caller_of program g gs) (callers_of program gs)) s.heap (storing named references k))
+      → Working (known_in program g.procedure gs) s.heap (copied_back actuals a.places g.places) s.masters (StoresOn (known_in program g.procedure gs) s.heap (storing named references k))
+  gets_plainly g gs plain w =
+      subst (λ (known : Known). Working known s.heap (copied_back actuals a.places g.places) s.masters (StoresOn known s.heap (storing named references k)))
+      (known_plainly program g gs plain) w
+
+  goes_plainly :
+      (mode : Mode) (g : Suspension) (gs : List Suspension) → g.tracks ≡ no_tracks
+      → Working (known_of (caller_of program g gs) (callers_of program gs)) s.heap g.places s.masters (GoesOn (known_of (caller_of program g gs) (callers_of program gs)) mode k)
+      → Working (known_in program g.procedure gs) s.heap g.places s.masters (GoesOn (known_in program g.procedure gs) mode k)
+  goes_plainly mode g gs plain w =
+      subst (λ (known : Known). Working known s.heap g.places s.masters (GoesOn known mode k)) (known_plainly program g gs plain) w
+
   -- A body is left, in whatever mode: its caller goes on, which waits for a call, as the body of no operation comes to its end here. Each variable of the
   -- body has a place, from which it gives something back.
   left_by : (mode : Mode) (b : Activation Value) (rest : List (Activation Value)) (g : Suspension) (gs : List Suspension) → Stands program (g ∷ gs) (record s { activations = a ∷ b ∷ rest }) → (IsAwaited k → ⊥) → ArePlaced (seen_in a.procedure (program_form program)).variables a.places → Working (known_in program a.procedure (g ∷ gs)) s.heap a.places s.masters (GoesOn (known_in program a.procedure (g ∷ gs)) mode (Returns actuals references ∷ k)) → WaitsSo (implicit_of (program_form program)) (seen_in a.procedure (program_form program)) (caller_of program g gs) (callers_of program gs) → CrossesTo program gs s.heap Quiet (resumed_in (behind_call mode) (behind_frames mode references k) (behind_body mode actuals a.places (b ∷ rest)) s)
   left_by Running b rest g gs stands none placed w (inl waits) =
-      gets_on b rest g gs stands (returns_by program a.procedure g gs s.heap a.places s.masters actuals references k waits w.rooms w.holds w.stored w.roomed placed w.fit w.rest)
+      gets_on b rest g gs stands (gets_plainly g gs stands.bodies.4 (returns_by program a.procedure g gs s.heap a.places s.masters actuals references k waits w.rooms w.holds w.stored w.roomed placed w.fit w.rest))
   left_by (Raising e) b rest g gs stands none placed w (inl waits) =
-      goes_back (Raising e) b rest g gs stands (raising_by program a.procedure g gs s.heap a.places s.masters actuals references k waits e w.rooms w.holds w.stored w.roomed w.fit w.rest)
+      goes_back (Raising e) b rest g gs stands (goes_plainly (Raising e) g gs stands.bodies.4 (raising_by program a.procedure g gs s.heap a.places s.masters actuals references k waits e w.rooms w.holds w.stored w.roomed w.fit w.rest))
   left_by Exiting b rest g gs stands none placed w (inl waits) = absurd (exiting_by program a.procedure g gs s.heap a.places s.masters actuals references k waits w.rooms w.holds w.rest)
   left_by Returning b rest g gs stands none placed w (inl waits) =
-      gets_on b rest g gs stands (returning_by program a.procedure g gs s.heap a.places s.masters actuals references k waits w.rooms w.holds w.stored w.roomed placed w.fit w.rest)
+      gets_on b rest g gs stands (gets_plainly g gs stands.bodies.4 (returning_by program a.procedure g gs s.heap a.places s.masters actuals references k waits w.rooms w.holds w.stored w.roomed placed w.fit w.rest))
   left_by mode b rest g gs stands none placed w (inr operation) =
       absurd (none (subst IsAwaited (sym (same_control program a.procedure g gs mode actuals references k w.rooms w.holds w.rest)) operation.operated))
 

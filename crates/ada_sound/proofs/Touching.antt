@@ -16,6 +16,7 @@ use Rattle.ada_deeds.specs.Implicit.{implicit_of}
 use Rattle.ada_effects.specs.Effects.{Implicit, assignment_frees}
 use Rattle.ada_flow.specs.declared.rule.Hold.TheVariants as hold
 use Rattle.ada_flow.specs.Flow.{Holds, Keeping, hold_at, is_owning}
+use Rattle.ada_flow.specs.Tracking.{no_tracks}
 use Rattle.ada_meaning.specs.declared.event.Birth.{Birth}
 use Rattle.ada_meaning.specs.declared.event.Birth.TheVariants.{Creation, Copy, Adjustment}
 use Rattle.ada_meaning.specs.declared.event.Cause.TheVariants.{Leaving, Freeing, Assigning, Undoing}
@@ -361,6 +362,7 @@ pub record Enters (known : Known) (treatment : Treatment) (o : Id) (x : Object) 
 abbrev pub resting : (procedure : Option ℕ) (places : List Value) (treatment : Treatment) (object : Id) (access : ℕ) (also : List Reference) (place : Place) (behind : Control) (lower : List Master) → Keeping → Rooms → Holds → Suspension
 resting procedure places treatment object access also place behind lower kept rooms holds = record {
   procedure = procedure;
+  tracks = no_tracks;
   actuals = [];
   passed = Part object place ∷ [];
   references = [];

@@ -311,7 +311,7 @@ module _ (program : Program) (well : IsWellFormed (program_form program)) (obeys
             stands = record {
               body = is_body;
               behind = ([], [], behind, refl);
-              bodies = (refl, stands.body, stands.behind, stands.bodies);
+              bodies = (refl, stands.body, stands.behind, stands.bodies, refl);
               standing = record {
                 suspended = (refl, stands.standing.suspended);
                 waiting = (inr (record { roomed = at.waits.roomed; covers = covers; operated = waited }), stands.standing.waiting);

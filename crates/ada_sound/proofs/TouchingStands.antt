@@ -10,6 +10,7 @@ use Rattle.ada_program.specs.declared.program.TypeDefinition.{TypeDefinition}
 use Rattle.ada_program.specs.ProgramForm.{TypeForm, BodyForm, ProgramForm, program_form, body_forms, seen_in}
 use Rattle.ada_program.specs.WellFormed.{is_access}
 use Rattle.ada_flow.specs.Flow.{Holds}
+use Rattle.ada_flow.specs.Tracking.{no_tracks}
 use Rattle.ada_parts.specs.declared.tasks.Next.{Next as NextTask}
 use Rattle.ada_parts.specs.declared.tasks.Next.TheVariants.{Done, Pick, Perform}
 use Rattle.ada_parts.specs.Part as parts
@@ -46,7 +47,7 @@ use Rattle.ada_sound.specs.Agreement.{running_procedure}
 use Rattle.ada_sound.specs.Always.{SparesOwn}
 use Rattle.ada_sound.proofs.BegunOutside.{begun_outside, owned_behind, owned_further}
 use Rattle.ada_sound.proofs.Below.{either_one}
-use Rattle.ada_sound.proofs.Callers.{Suspension, callers_of, known_in, none_under, Stands}
+use Rattle.ada_sound.proofs.Callers.{Suspension, caller_of, callers_of, covers_plainly, known_in, none_under, waits_plainly, Stands}
 use Rattle.ada_scopes.specs.Scopes.{is_innermost}
 use Rattle.ada_sound.proofs.Fits.{IsOwnedAmong, IsOwnedOutside, IsReferred, Outsiders, Reference, referred_behind, referred_first}
 use Rattle.ada_sound.proofs.FreesCovered.{frees_among}
@@ -612,16 +613,30 @@ module _ (program : Program) (spares : SparesOwn program) (s : State) where
       by (begins birth done) is under' = under'
       by (ends cause) is under' = frees_not depth f cause is o x found (treated_is (ends cause) f.object o under') covered of
 
+  -- Those behind an activation that tracks nothing wait as its program says.
+  waits_further :
+      (g : Suspension) (gs : List Suspension) → g.tracks ≡ no_tracks → AllWait (caller_of program g gs).implicit (caller_of program g gs).program (callers_of program gs)
+      → AllWait (implicit_of p) (seen_in g.procedure p) (callers_of program gs)
+  waits_further g gs plain waits = waits_plainly program g gs plain (callers_of program gs) waits
+
   module _ (frugal : Allowance) (back : Control) (lower : List Master) where
+    -- What waits for an operation tracks nothing.
+    tracks_nothing : (running : Option ℕ) (depth : ℕ) (others : List Suspension) (among : List Value) (g : Suspension)
+        → IsOperation program s frugal back lower running depth others among g → g.tracks ≡ no_tracks
+    tracks_nothing running depth others among g operation = ap (λ (waiting : Suspension). waiting.tracks) operation.is
+
     -- What the running body may free, that of the outermost operation may free.
     pub covers_outermost :
         (procedure : Option ℕ) (depth number : ℕ) (others inner : List Suspension) → AreInner program s frugal back lower procedure depth (Some number) others inner
         → AllWait (implicit_of p) (seen_in procedure p) (callers_of program (inner ++ others)) → (t : ℕ) → Covers procedure t → Covers (Some number) t
     covers_outermost procedure depth number others [] w waits t covered = subst (λ (own : Option ℕ). Covers own t) w covered
     covers_outermost procedure depth number others (g ∷ inner) (inl (call, more)) waits t covered =
-        covers_outermost g.procedure (suc depth) number others inner more waits.1 t (waits_covers waits.0 t covered)
+        covers_outermost g.procedure (suc depth) number others inner more (waits_further g (inner ++ others) call.2 waits.1) t
+        (covers_plainly program g (inner ++ others) call.2 t (waits_covers waits.0 t covered))
     covers_outermost procedure depth number others (g ∷ inner) (inr (operation, more)) waits t covered =
-        covers_outermost g.procedure (suc depth) number others inner more waits.1 t (waits_covers waits.0 t covered)
+        let plain = tracks_nothing procedure depth (inner ++ others) (operated_among inner) g operation in
+        covers_outermost g.procedure (suc depth) number others inner more (waits_further g (inner ++ others) plain waits.1) t
+        (covers_plainly program g (inner ++ others) plain t (waits_covers waits.0 t covered))
 
     -- No object under way in the activations that wait is one that the running body may free, if none is in those behind them.
     pub none_in :
@@ -632,12 +647,17 @@ module _ (program : Program) (spares : SparesOwn program) (s : State) where
     none_in procedure depth number others (g ∷ inner) (inl (call, more)) waits o x found of covered behind under =
         elim (either_one g.under (under_in (callers_of program (inner ++ others))) o under) [
           | inl here ↦ subst (λ (under' : List Id). IsUnder under' o) call.1 here
-          | inr later ↦ none_in g.procedure (suc depth) number others inner more waits.1 o x found of (waits_covers waits.0 x.cell.access covered) behind later
+          | inr later ↦ none_in g.procedure (suc depth) number others inner more (waits_further g (inner ++ others) call.2 waits.1) o x found of
+              (covers_plainly program g (inner ++ others) call.2 x.cell.access (waits_covers waits.0 x.cell.access covered)) behind later
         ]
     none_in procedure depth number others (g ∷ inner) (inr (operation, more)) waits o x found of covered behind under =
-        by (λ later. none_in g.procedure (suc depth) number others inner more waits.1 o x found of (waits_covers waits.0 x.cell.access covered) behind later)
+        by (λ later. none_in g.procedure (suc depth) number others inner more (waits_further g (inner ++ others) plain waits.1) o x found of
+        (covers_plainly program g (inner ++ others) plain x.cell.access (waits_covers waits.0 x.cell.access covered)) behind later)
         (either_one g.under (under_in (callers_of program (inner ++ others))) o under)
       where
+        plain : g.tracks ≡ no_tracks
+        plain = tracks_nothing procedure depth (inner ++ others) (operated_among inner) g operation
+
         by : (IsUnder (under_in (callers_of program (inner ++ others))) o → ⊥) → IsUnder g.under o ⊎ IsUnder (under_in (callers_of program (inner ++ others))) o → ⊥
         by further (inl here) =
             let f = operation.pause in
@@ -658,15 +678,20 @@ module _ (program : Program) (spares : SparesOwn program) (s : State) where
         → Covers procedure x.cell.access → (IsOwnedAmong (outer_in (callers_of program (inner ++ others))) o → ⊥) → IsAmong (Names o) (operated_among inner) → ⊥
     operated_apart procedure depth number others [] w waits o x found of covered inside among = among
     operated_apart procedure depth number others (g ∷ inner) (inl (call, more)) waits o x found of covered inside among =
-        operated_apart g.procedure (suc depth) number others inner more waits.1 o x found of (waits_covers waits.0 x.cell.access covered)
+        operated_apart g.procedure (suc depth) number others inner more (waits_further g (inner ++ others) call.2 waits.1) o x found of
+        (covers_plainly program g (inner ++ others) call.2 x.cell.access (waits_covers waits.0 x.cell.access covered))
         (λ owned. inside (owned_behind program g (inner ++ others) o owned))
         (subst (λ (vs : List Value). IsAmong (Names o) (vs ++ operated_among inner)) (none_operated g.control call.0) among)
     operated_apart procedure depth number others (g ∷ inner) (inr (operation, more)) waits o x found of covered inside among =
-        by (λ later. operated_apart g.procedure (suc depth) number others inner more waits.1 o x found of (waits_covers waits.0 x.cell.access covered)
+        by (λ later. operated_apart g.procedure (suc depth) number others inner more (waits_further g (inner ++ others) plain waits.1) o x found of
+        (covers_plainly program g (inner ++ others) plain x.cell.access (waits_covers waits.0 x.cell.access covered))
         (λ owned. inside (owned_behind program g (inner ++ others) o owned)) later)
         (subst (λ (vs : List Value). IsAmong (Names o) (vs ++ operated_among inner))
         (operated_first procedure depth (inner ++ others) (operated_among inner) g operation) among)
       where
+        plain : g.tracks ≡ no_tracks
+        plain = tracks_nothing procedure depth (inner ++ others) (operated_among inner) g operation
+
         owned : IsOwnedAmong (outer_in (callers_of program (origin program depth s operation.pause ∷ inner ++ others))) o → ⊥
         owned among' = inside (subst (λ (waiting : Suspension). IsOwnedAmong (outer_in (callers_of program (waiting ∷ inner ++ others))) o) (sym operation.is) among')
 

@@ -176,7 +176,7 @@ module _ (program : Program) (a : Activation Value) (k : Control) (s : State) (r
       let c = calls_to program number b given k a rest gs s works ready.rest.1 (inside.heap_typed (seen_in a.procedure (program_form program)) before grounds.typed.inside).1 stands (λ o x gone. touching_awaits program gs before w)
       (runs_called program number b given k a gs s grounds.well grounds.obeys (called_apart program before number b given k refl grounds.obeys.0 grounds.apart) works stands.body ready.rest.1 rest stands) in
       inl (touching_on program before f (waits ∷ w.inner) Quiet _ (inl (
-        (unawaited, refl),
+        (unawaited, refl, refl),
         inner_on program before (thrifty program before f) w.outermost.behind w.outermost.lower _ Quiet a.procedure 0 (suc 0) (Some w.outermost.number)
             (behind_it program before f) w.inner w.within c.stepped.alters (λ n. sym (operands_deeper n rest a _)) still.1,
       ))

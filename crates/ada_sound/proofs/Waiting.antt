@@ -15,7 +15,7 @@ use Rattle.ada_sound.specs.Agreement.{IsBehind, running_procedure}
 use Rattle.ada_sound.proofs.Alters.{Alters}
 use Rattle.ada_sound.proofs.Bodies.{IsBody}
 use Rattle.ada_sound.proofs.Invariant.{Caller, AreSuspended, AllWait, OneAwaits, LiesBelow, LieBelow}
-use Rattle.ada_sound.proofs.Callers.{Suspension, rest_of, callers_of, AreOf, Stands}
+use Rattle.ada_sound.proofs.Callers.{Suspension, rest_of, callers_of, waits_plainly, AreOf, Stands}
 
 -- From one state to the other the same body runs, and what waits for it stays as it is.
 pub record SameBody (s after : State) : Type 0 where
@@ -79,7 +79,8 @@ stands_behind program g gs a b rest s stands after active heap =
       bodies = rw active stands.bodies.3;
       standing = record {
         suspended = rw active stands.standing.suspended.1;
-        waiting = subst (λ (procedure : Option ℕ). AllWait (implicit_of (program_form program)) (seen_in procedure (program_form program)) (callers_of program gs)) (sym of) stands.standing.waiting.1;
+        waiting = subst (λ (procedure : Option ℕ). AllWait (implicit_of (program_form program)) (seen_in procedure (program_form program)) (callers_of program gs)) (sym of)
+            (waits_plainly program g gs stands.bodies.4 (callers_of program gs) stands.standing.waiting.1);
         low = rw heap stands.standing.low.3;
       };
     }
