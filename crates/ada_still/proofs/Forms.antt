@@ -38,7 +38,7 @@ use Rattle.ada_order.proofs.Numbers.{Counted}
 use Rattle.ada_scopes.proofs.Homes.{HasHome, home_has, Housed, housed_owning, housed_on, housed_new, IsEmpty, housed_shorter}
 use Rattle.ada_scopes.proofs.Evaluations.{keeps_parted, keeps_finished, keeps_returned, keeps_filled}
 use Rattle.ada_still.specs.Still.{right_keeps, holds_parts}
-use Rattle.ada_still.proofs.Sits.{no_tasks, bounds, IsOwned, IsEntered, SitsInside, Rests, AllRest, creates_none, collects_none, other, treating_sits, owning_sits}
+use Rattle.ada_still.proofs.Sits.{no_tasks, bounds, IsOwned, IsEntered, SitsInside, Rests, AllRest, creates_none, collects_none, other, treating_sits, IsElaborating, owning_elaborating, elaborating_entered}
 
 -- Components of an object get values (5.2).
 housed_from : (heap : List Object) (o : Value) (c : ℕ) (vs : List Value) (is : List Item) → Housed heap is → Housed (stored_from named heap o c vs) is
@@ -428,13 +428,13 @@ module _ (forms : List TypeForm) (still own : ℕ → Bool) (b : Bool) (types : 
   leave_sits mode (m ∷ ms) s counted h housed = master_leave_sits mode m.number m.items ms s counted h housed
 
   -- A record object is made (3.3.1).
-  pub made_sits : (x t : ℕ) (by : Birth) (values : List Value) (s : State) → (bounds forms still own b).creates t ≡ true → IsEntered forms still own s.masters → Rests forms still own b s
+  pub made_sits : (x t : ℕ) (by : Birth) (values : List Value) (s : State) → (bounds forms still own b).creates t ≡ true → IsElaborating forms still own s.control → Rests forms still own b s
       → Rests forms still own b (made named types x t by values s)
-  made_sits x t by values s may entered h =
+  made_sits x t by values s may elaborates h =
       let item : Item = record { number = height s.masters; owned = record_object t } in (
         treating_sits forms still own b (Names (record { 0 = length s.heap })) (frame.begins by []) (all_tasks types t PartsFirst) s.control (owning item s.masters)
-            (none_to_do t PartsFirst (creates_none forms still own b t may)) (owning_sits forms still own b item s.control s.masters may refl h.0),
-        housed_new s.heap (record_cell named types t (height s.masters) values) (items_of (owning item s.masters)) (home_made s.masters entered)
+            (none_to_do t PartsFirst (creates_none forms still own b t may)) (owning_elaborating forms still own b item s.control s.masters may elaborates h.0),
+        housed_new s.heap (record_cell named types t (height s.masters) values) (items_of (owning item s.masters)) (home_made s.masters (elaborating_entered forms still own b s.control s.masters elaborates h.0))
             (housed_owning s.heap item s.masters h.1),
       )
     where

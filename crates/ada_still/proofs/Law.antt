@@ -87,7 +87,7 @@ module _ (program : Program) (own still : ℕ → Bool) where
   owned_other : (owned : Owned) → IsOwned (program_form program).types still own false owned → IsOther own owned
   owned_other (declared x) is = tt
   owned_other (collection access pool) is = not_true (own access) is
-  owned_other (record_object t) is = tt
+  owned_other (record_object t) is = not_true (own t) is
   owned_other (storage_pool declaration number) is = tt
 
   are_other : (is : List Item) → AreOwned (program_form program).types still own false is → AreOther own is

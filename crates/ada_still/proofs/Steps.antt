@@ -35,7 +35,7 @@ use Rattle.ada_scopes.proofs.Homes.{Housed, housed_owning, housed_on}
 use Rattle.ada_scopes.proofs.Evaluations.{keeps_filled}
 use Rattle.ada_still.specs.Still.{right_keeps, declarations_keep, stmt_keeps, stmts_keep, branches_keep, handlers_keep, body_keeps, holds_parts, still_bounds}
 use Rattle.ada_still.proofs.Coming.{all_next}
-use Rattle.ada_still.proofs.Sits.{no_parts, bounds, PartKeeps, BodyFits, Holds, IsEntered, Sits, SitsInside, Rests, AllRest, SomeRests, AllSome, frees_none, assigns_none, part_keeps, owning_inside, owning_sits, inside_entered, body_begins}
+use Rattle.ada_still.proofs.Sits.{no_parts, bounds, PartKeeps, BodyFits, Holds, IsElaborating, Sits, SitsInside, Rests, AllRest, SomeRests, AllSome, frees_none, assigns_none, part_keeps, owning_inside, owning_sits, body_begins}
 use Rattle.ada_still.proofs.Forms.{FoundIsBare, path_sits, holder_sits, record_holder_sits, expression_sits, null_test_sits, links_sits, outcome_sits, items_sits, copies_sits, record_target_sits, store_record_sits, record_assign_sits, refers_sits, open_sits, opens_sits, end_sits, back_sits, new_sits, right_sits, free_sits, free_in_sits, leave_sits, made_sits}
 use Rattle.ada_still.proofs.Treats.{treats_behind, treats_sits, awaited_sits, broken_off_sits}
 
@@ -289,10 +289,10 @@ module _ (forms : List TypeForm) (still own : ℕ → Bool) (b : Bool) (types : 
   line_sits (Some i) s h = h
 
   -- A record object is made (3.3.1), at once or once its initial value is known.
-  record_sits : (x t : ℕ) (initial : Option (List ItemForm)) (s : State) → (bounds forms still own b).creates t ≡ true → IsEntered forms still own s.masters → Rests forms still own b s
+  record_sits : (x t : ℕ) (initial : Option (List ItemForm)) (s : State) → (bounds forms still own b).creates t ≡ true → IsElaborating forms still own s.control → Rests forms still own b s
       → AllRest forms still own b (record_next named types x t initial s)
-  record_sits x t None s may entered h = made_sits forms still own b types shown x t Creation (initial_values named (reached_of types t)) s may entered h
-  record_sits x t (Some items) s may entered h = ((tt, ((may, entered), h.0)), h.1)
+  record_sits x t None s may elaborates h = made_sits forms still own b types shown x t Creation (initial_values named (reached_of types t)) s may elaborates h
+  record_sits x t (Some items) s may elaborates h = ((tt, ((may, elaborates), h.0)), h.1)
 
   -- Declarations (3.11).
   declarations_sits : (ds : List DeclarationForm) (fs : StmtsForm) (hs : HandlersForm) (s : State) → PartKeeps forms still own b ds fs hs
@@ -310,7 +310,7 @@ module _ (forms : List TypeForm) (still own : ℕ → Bool) (b : Bool) (types : 
       ((both.0, (tt, ((both.1, may.1), h))), housed)
   declarations_sits (declares_record x t initial ∷ ds) fs hs s may h housed =
       let both = and_parts ((bounds forms still own b).creates t) (declarations_keep (bounds forms still own b) ds) may.0 in
-      record_sits x t initial (at (frame.Elaborates ds fs hs ∷ s.control) s) both.0 (inside_entered forms still own b s.control s.masters h) (((both.1, may.1), h), housed)
+      record_sits x t initial (at (frame.Elaborates ds fs hs ∷ s.control) s) both.0 tt (((both.1, may.1), h), housed)
 
   -- A record with controlled parts is assigned to another (5.2, 7.6), behind still bodies.
   assigns_sits : (t : ℕ) (target source : Value) (alike : Option Bool) (s : State) → b ≡ false → Rests forms still own b s
