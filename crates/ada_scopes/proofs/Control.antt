@@ -157,7 +157,7 @@ module _ (types : List TypeForm) (callees : Callees) (main : Option (List ℕ)) 
     nests_within ss vs (frame.Confines ∷ k) (x, inr goes) = goes_within ss vs k goes
     nests_within ss vs (f ∷ k) n = nests_within ss vs k n.1
 
-    goes_within : (ss vs : Scopes) (k : List (Frame Value)) → Goes types callees main calling ss vs k → HasMain main (all_of ss)
+    pub goes_within : (ss vs : Scopes) (k : List (Frame Value)) → Goes types callees main calling ss vs k → HasMain main (all_of ss)
     goes_within ss vs [] goes = absurd goes
     goes_within ss vs (frame.Leaves mode ∷ k) goes =
         within_outside main ss (older vs) k (Nests types callees main calling (older ss) (older vs) k) (λ nest. nests_within (older ss) (older vs) k nest) goes
@@ -329,6 +329,13 @@ pub data Nested (types : List TypeForm) (callees : Callees) (main : Option (List
   beginning : Begins types callees main calling s → Nested types callees main calling s
   parting : (ss : Scopes) → Whole types ss s.masters s.heap → s.mode ≡ Running → Goes types callees main calling ss (scopes s.masters) s.control → Nested types callees main calling s
   resting : (ss : Scopes) → Whole types ss s.masters s.heap → scopes s.masters ≡ [] → s.control ≡ [] → Nested types callees main calling s
+
+-- What masters have opened in such a state.
+abbrev pub scopes_in : (types : List TypeForm) (callees : Callees) (main : Option (List ℕ)) (calling : Bool) (s : State) → Nested types callees main calling s → Scopes
+scopes_in types callees main calling s (standing ss w n) = ss
+scopes_in types callees main calling s (beginning b) = b.ss
+scopes_in types callees main calling s (parting ss w runs goes) = ss
+scopes_in types callees main calling s (resting ss w none ends) = ss
 
 -- How masters change.
 pub whole_declared : (types : List TypeForm) (ss : Scopes) (number x : ℕ) (ms : List Master) (heap : List Object) → Whole types ss ms heap → Whole types ss (owning (record { number = number; owned = declared x }) ms) heap
