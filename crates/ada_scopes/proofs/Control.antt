@@ -2,12 +2,12 @@
 -- its master and the outer ones have. The outermost of them is that of the main procedure, which opens the collections that this declares.
 
 use Rattle.std.proofs.Common.{◌≡◌, ℕ, zero, suc, ◌+◌, ◌≤◌, Bool, true, false, List, [], ◌∷◌, ◌++◌, Some, None, arith, refl, sym, ap, ◌⊎◌, inl, inr, Option}
-use Rattle.std.specs.List.{list_all}
+use Rattle.std.specs.List.{slice_get, list_all}
 use Rattle.ada_parts.specs.Task.{Task}
 use Rattle.ada_program.specs.Form.{DeclarationForm, StmtsForm, HandlersForm}
 use Rattle.ada_program.specs.ProgramForm.{TypeForm}
 use Rattle.ada_program.specs.WellFormed.{is_access, reached_components, is_object, collections_first}
-use Rattle.ada_program.specs.Nested.{Callees, collected, are_open}
+use Rattle.ada_program.specs.Nested.{Callees, call_nests, collected, are_open}
 use Rattle.ada_meaning.specs.declared.state.Value.{Value}
 use Rattle.ada_meaning.specs.declared.event.Cause.{Cause}
 use Rattle.ada_meaning.specs.declared.state.Mode.TheVariants.{Running}
@@ -68,7 +68,8 @@ FrameNests types callees main calling ss vs (frame.Turns condition fs) = Where (
 FrameNests types callees main calling ss vs (frame.Ranges x fs) = Where (all_of ss) (λ around. StatementsNest types callees around fs)
 FrameNests types callees main calling ss vs (frame.Counts x value last fs) = Where (all_of ss) (λ around. StatementsNest types callees around fs)
 FrameNests types callees main calling ss vs (frame.Handles hs) = Where (all_of ss) (λ around. HandlersNest types callees around hs)
-FrameNests types callees main calling ss vs (frame.Calls procedure b actuals) = Where (all_of ss) (λ around. BodyNests types callees around b)
+FrameNests types callees main calling ss vs (frame.Calls procedure b actuals) =
+    Where (all_of ss) (λ around. BodyNests types callees around b × (call_nests (slice_get callees procedure) around ≡ true))
 FrameNests types callees main calling ss vs (frame.DeclaresRecord x t) = RecordHere types (all_of ss) t × OwnsAll main ss vs
 FrameNests types callees main calling ss vs frame.Closes = OwnsAll main ss vs
 FrameNests types callees main calling ss vs frame.Confines = calling ≡ true

@@ -152,9 +152,9 @@ module _ (types : List TypeForm) (callees : Callees) (main : Option (List ℕ)) 
   call_good procedure actuals None s around at_body alike nest h = tt
   call_good procedure actuals (Some b) s around at_body alike nest h =
       standing ss h.0
-      (computing_nests actuals (scopes s.masters) (frame.Calls procedure b actuals ∷ s.control) ((around, alike, nesting procedure b around at_body nest), h.1))
+      (computing_nests actuals (scopes s.masters) (frame.Calls procedure b actuals ∷ s.control) ((around, alike, (nesting procedure b around at_body nest, nest)), h.1))
 
-  body_begins : (procedure : ℕ) (b : BodyForm) (actuals : List ActualForm) (values : List Value) (s : State) → s.mode ≡ Running → Where (all_of ss) (λ around. BodyNests types callees around b) → Stands types callees main calling ss s → Nested types callees main calling (begun named procedure b actuals values s)
+  body_begins : (procedure : ℕ) (b : BodyForm) (actuals : List ActualForm) (values : List Value) (s : State) → s.mode ≡ Running → Where (all_of ss) (λ around. BodyNests types callees around b × (call_nests (slice_get callees procedure) around ≡ true)) → Stands types callees main calling ss s → Nested types callees main calling (begun named procedure b actuals values s)
   body_begins procedure b actuals values s runs nest h = beginning (record {
     ss = ss;
     m = record { number = s.next; items = [] };
@@ -167,9 +167,9 @@ module _ (types : List TypeForm) (callees : Callees) (main : Option (List ℕ)) 
     masters = refl;
     control = refl;
     runs = runs;
-    growing = grows types main ss s.next s.masters s.heap b.declarations nest.0 nest.2.part nest.1 h.0;
-    statements = nest.2.statements;
-    handlers = nest.2.handlers;
+    growing = grows types main ss s.next s.masters s.heap b.declarations nest.0 nest.2.0.part nest.1 h.0;
+    statements = nest.2.0.statements;
+    handlers = nest.2.0.handlers;
     nests = inr (tt, h.1);
   })
 

@@ -3,6 +3,7 @@
 
 use Rattle.std.proofs.Common.{◌≡◌, ◌⊎◌, inl, inr, ℕ, Bool, true, false, not, List, [], ◌∷◌, map, Option, Some, None, refl, sym, ap, ◌∙◌}
 use Rattle.std.specs.Prelude.{◌&&◌, is_some}
+use Rattle.std.specs.List.{slice_get}
 use Rattle.std.proofs.lemmas.Bool.{and_parts}
 use Rattle.ada_program.specs.declared.program.Finalization.{Finalization}
 use Rattle.ada_program.specs.declared.program.TypeDefinition.{TypeDefinition}
@@ -54,7 +55,7 @@ pub not_true : (b : Bool) → not b ≡ true → b ≡ false
 not_true true is = absurd (cc is)
 not_true false is = refl
 
-module _ (forms : List TypeForm) (still own : ℕ → Bool) where
+module _ (forms : List TypeForm) (bodies : List BodyForm) (still own : ℕ → Bool) where
   -- What the text of still bodies may do, or that of others.
   abbrev pub bounds : (within : Bool) → Bounds
   bounds true = still_bounds forms still
@@ -78,7 +79,7 @@ module _ (forms : List TypeForm) (still own : ℕ → Bool) where
   Holds b (frame.Ranges x fs) = stmts_keep (bounds b) fs ≡ true
   Holds b (frame.Counts x value last fs) = stmts_keep (bounds b) fs ≡ true
   Holds b (frame.Handles hs) = handlers_keep (bounds b) hs ≡ true
-  Holds b (frame.Calls procedure body actuals) = BodyFits b body
+  Holds b (frame.Calls procedure body actuals) = BodyFits b body × (slice_get bodies procedure ≡ Some body)
   Holds b (frame.Evaluates right) = right_keeps (bounds b) right ≡ true
   Holds b (frame.Targets c right) = right_keeps (bounds b) right ≡ true
   Holds b (frame.Creates access count) = (bounds b).creates access ≡ true
