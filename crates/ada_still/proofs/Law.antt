@@ -55,7 +55,7 @@ module _ (program : Program) (well : IsWellFormed (program_form program)) (frees
         | inr is ↦ inr (collect.keeps procedure body at_body is)
       ]
 
-  step_some : (events : List Event) (s after : State) (choice : Choice) (e : Event) → Run program (first_state program input) events s → Kept program.types.items s
+  pub step_some : (events : List Event) (s after : State) (choice : Choice) (e : Event) → Run program (first_state program input) events s → Kept program.types.items s
       → SomeRests (program_form program).types (body_forms program) still own s → Step program s choice e after → SomeRests (program_form program).types (body_forms program) still own after
   step_some events s after choice e run kept rests step =
       led_next (SomeRests (program_form program).types (body_forms program) still own) (next program.types.items (body_forms program) s) choice e after
@@ -69,7 +69,7 @@ module _ (program : Program) (well : IsWellFormed (program_form program)) (frees
       run_some (before ++ e ∷ []) mid last events (run_more e choice mid so_far step) (step_keeps program s choice e mid kept step)
       (step_some before s mid choice e so_far kept rests step) rest
 
-  first_some : SomeRests (program_form program).types (body_forms program) still own (first_state program input)
+  pub first_some : SomeRests (program_form program).types (body_forms program) still own (first_state program input)
   first_some = (
     false,
     (
@@ -94,7 +94,7 @@ module _ (program : Program) (own still : ℕ → Bool) where
   are_other [] owned = tt
   are_other (i ∷ is) owned = (owned_other i.owned owned.0, are_other is owned.1)
 
-  none_open : (k : List (Frame Value)) (ms : List Master) → Sits (program_form program).types (body_forms program) still own false k ms → NoneOpen own ms
+  pub none_open : (k : List (Frame Value)) (ms : List Master) → Sits (program_form program).types (body_forms program) still own false k ms → NoneOpen own ms
   none_open [] [] h = tt
   none_open [] (m ∷ ms) h = absurd h
   none_open (frame.Elaborates ds fs hs ∷ k) [] h = tt
