@@ -1,6 +1,6 @@
 -- What is left to do behind still bodies nests where none of the types is open that these declare, and its masters are whole without them.
 
-use Rattle.std.proofs.Common.{◌≡◌, ◌⊎◌, inl, inr, ℕ, ◌+◌, ◌≤◌, ◌==◌, Bool, true, false, List, [], ◌∷◌, ◌++◌, Option, Some, None, arith, refl, sym, ◌∙◌, subst}
+use Rattle.std.proofs.Common.{◌≡◌, inl, inr, ℕ, ◌+◌, ◌≤◌, ◌==◌, Bool, true, false, List, [], ◌∷◌, ◌++◌, None, arith, refl, subst}
 use Rattle.std.specs.List.{slice_get}
 use Rattle.std.proofs.lemmas.Bool.{eqb-true}
 use Rattle.ada_program.specs.Form.{StmtsForm}
@@ -70,6 +70,7 @@ module _ (own : ℕ → Bool) where
       none : (access : ℕ) (same : Bool) → (access == t) ≡ same → own access ≡ false → times t (opened is) ≡ 0 → one same + times t (opened is) ≡ 0
       none access true same apart rest = let e = eqb-true access t same in absurd (cc (apart, mine, e))
       none access false same apart rest = omega (arith, rest)
+
       by : (owned : Owned) → IsOther own owned → times t (opened is) ≡ 0 → times t (opened_by owned (opened is)) ≡ 0
       by (declared x) apart rest = rest
       by (collection access pool) apart rest = none access (access == t) refl apart rest

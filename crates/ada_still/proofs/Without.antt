@@ -1,6 +1,6 @@
 -- What nests where some access types are open nests where those of their own are not, if the text declares none of these and creates none of their objects.
 
-use Rattle.std.proofs.Common.{◌≡◌, ℕ, zero, suc, ◌+◌, ◌≤◌, ◌==◌, ◌&&◌, not, if◌then◌else◌, Bool, true, false, List, [], ◌∷◌, ◌++◌, Option, Some, None, arith, refl, sym, ap, ◌∙◌, subst}
+use Rattle.std.proofs.Common.{◌≡◌, ℕ, ◌+◌, ◌≤◌, ◌==◌, ◌&&◌, not, Bool, true, false, List, [], ◌∷◌, ◌++◌, Option, Some, None, arith, refl, ◌∙◌}
 use Rattle.std.specs.List.{slice_get, list_all}
 use Rattle.std.proofs.lemmas.Bool.{and_from, and_parts, eqb-true}
 use Rattle.ada_program.specs.declared.program.ComponentKind.{ComponentKind}
@@ -8,10 +8,10 @@ use Rattle.ada_program.specs.declared.program.ComponentKind.TheVariants as compo
 use Rattle.ada_program.specs.Form.{DeclarationForm, creates_pool, collects, declares, declares_record, StmtForm, skips, assigns, assigns_record, frees, gets, writes, writes_text, chooses, repeats, counts, exits, calls, returns, raises, encloses, StmtsForm, no_stmts, a_stmt, BranchesForm, otherwise, a_branch, HandlersForm, no_handlers, a_handler}
 use Rattle.ada_program.specs.Nested.{Callees, call_nests, collected, is_one_of, kind_is_open, are_open}
 use Rattle.ada_program.specs.ProgramForm.{TypeForm}
-use Rattle.ada_program.specs.WellFormed.{is_access, reached_components}
+use Rattle.ada_program.specs.WellFormed.{reached_components}
 use Rattle.ada_scopes.proofs.Counts.{one, times, times_append, times_of, times_none, of_times}
 use Rattle.ada_scopes.proofs.Texts.{RecordsNest, PartNests, StatementNests, StatementsNest, BranchesNest, HandlersNest}
-use Rattle.ada_still.specs.Still.{right_keeps, declaration_keeps, declarations_keep, stmt_keeps, stmts_keep, branches_keep, handlers_keep, bounds_without}
+use Rattle.ada_still.specs.Still.{right_keeps, declarations_keep, stmt_keeps, stmts_keep, branches_keep, handlers_keep, bounds_without}
 use Rattle.ada_still.specs.Beside.{IsWithout, is_other_kind, are_other_kinds}
 use Rattle.ada_still.proofs.Sits.{not_true}
 
@@ -52,6 +52,7 @@ module _ (own : ℕ → Bool) where
       other : (vs : List ℕ) (t : ℕ) → own t ≡ false → times t (without own vs) ≡ times t vs
       other [] t is = refl
       other (v ∷ vs) t is = let rest = other vs t is in let first = one_other t v (own v) (without own vs) refl is in omega (arith, rest, first)
+
       mine : (vs : List ℕ) (t : ℕ) → own t ≡ true → times t (without own vs) ≡ 0
       mine [] t is = refl
       mine (v ∷ vs) t is = one_mine t v (own v) (without own vs) refl is (mine vs t is)
@@ -187,8 +188,7 @@ module _ (types : List TypeForm) (callees : Callees) (own : ℕ → Bool) (other
     statement_without us vs (encloses ds fs hs) others keeps nest =
         let outer = and_parts (declarations_keep (bounds_without own) ds && stmts_keep (bounds_without own) fs) (handlers_keep (bounds_without own) hs) keeps in
         let inner = and_parts (declarations_keep (bounds_without own) ds) (stmts_keep (bounds_without own) fs) outer.0 in
-        let under = others_under own (collected ds) us vs (collected_other own ds inner.0) others in
-        (
+        let under = others_under own (collected ds) us vs (collected_other own ds inner.0) others in (
           part_without us vs ds others inner.0 nest.0,
           statements_without (collected ds ++ us) (collected ds ++ vs) fs under inner.1 nest.1,
           handlers_without (collected ds ++ us) (collected ds ++ vs) hs under outer.1 nest.2,
