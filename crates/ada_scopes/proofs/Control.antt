@@ -2,12 +2,12 @@
 -- its master and the outer ones have. The outermost of them is that of the main procedure, which opens the collections that this declares.
 
 use Rattle.std.proofs.Common.{◌≡◌, ℕ, zero, suc, ◌+◌, ◌≤◌, Bool, true, false, List, [], ◌∷◌, ◌++◌, Some, None, arith, refl, sym, ap, ◌⊎◌, inl, inr, Option}
-use Rattle.std.specs.List.{list_all}
+use Rattle.std.specs.List.{slice_get, list_all}
 use Rattle.ada_parts.specs.Task.{Task}
 use Rattle.ada_program.specs.Form.{DeclarationForm, StmtsForm, HandlersForm}
 use Rattle.ada_program.specs.ProgramForm.{TypeForm}
 use Rattle.ada_program.specs.WellFormed.{is_access, reached_components, is_object, collections_first}
-use Rattle.ada_program.specs.Nested.{Callees, collected, are_open}
+use Rattle.ada_program.specs.Nested.{Callees, call_nests, collected, are_open}
 use Rattle.ada_meaning.specs.declared.state.Value.{Value}
 use Rattle.ada_meaning.specs.declared.event.Cause.{Cause}
 use Rattle.ada_meaning.specs.declared.state.Mode.TheVariants.{Running}
@@ -68,7 +68,8 @@ FrameNests types callees main calling ss vs (frame.Turns condition fs) = Where (
 FrameNests types callees main calling ss vs (frame.Ranges x fs) = Where (all_of ss) (λ around. StatementsNest types callees around fs)
 FrameNests types callees main calling ss vs (frame.Counts x value last fs) = Where (all_of ss) (λ around. StatementsNest types callees around fs)
 FrameNests types callees main calling ss vs (frame.Handles hs) = Where (all_of ss) (λ around. HandlersNest types callees around hs)
-FrameNests types callees main calling ss vs (frame.Calls procedure b actuals) = Where (all_of ss) (λ around. BodyNests types callees around b)
+FrameNests types callees main calling ss vs (frame.Calls procedure b actuals) =
+    Where (all_of ss) (λ around. BodyNests types callees around b × (call_nests (slice_get callees procedure) around ≡ true))
 FrameNests types callees main calling ss vs (frame.DeclaresRecord x t) = RecordHere types (all_of ss) t × OwnsAll main ss vs
 FrameNests types callees main calling ss vs frame.Closes = OwnsAll main ss vs
 FrameNests types callees main calling ss vs frame.Confines = calling ≡ true
@@ -157,7 +158,7 @@ module _ (types : List TypeForm) (callees : Callees) (main : Option (List ℕ)) 
     nests_within ss vs (frame.Confines ∷ k) (x, inr goes) = goes_within ss vs k goes
     nests_within ss vs (f ∷ k) n = nests_within ss vs k n.1
 
-    goes_within : (ss vs : Scopes) (k : List (Frame Value)) → Goes types callees main calling ss vs k → HasMain main (all_of ss)
+    pub goes_within : (ss vs : Scopes) (k : List (Frame Value)) → Goes types callees main calling ss vs k → HasMain main (all_of ss)
     goes_within ss vs [] goes = absurd goes
     goes_within ss vs (frame.Leaves mode ∷ k) goes =
         within_outside main ss (older vs) k (Nests types callees main calling (older ss) (older vs) k) (λ nest. nests_within (older ss) (older vs) k nest) goes
@@ -329,6 +330,13 @@ pub data Nested (types : List TypeForm) (callees : Callees) (main : Option (List
   beginning : Begins types callees main calling s → Nested types callees main calling s
   parting : (ss : Scopes) → Whole types ss s.masters s.heap → s.mode ≡ Running → Goes types callees main calling ss (scopes s.masters) s.control → Nested types callees main calling s
   resting : (ss : Scopes) → Whole types ss s.masters s.heap → scopes s.masters ≡ [] → s.control ≡ [] → Nested types callees main calling s
+
+-- What masters have opened in such a state.
+abbrev pub scopes_in : (types : List TypeForm) (callees : Callees) (main : Option (List ℕ)) (calling : Bool) (s : State) → Nested types callees main calling s → Scopes
+scopes_in types callees main calling s (standing ss w n) = ss
+scopes_in types callees main calling s (beginning b) = b.ss
+scopes_in types callees main calling s (parting ss w runs goes) = ss
+scopes_in types callees main calling s (resting ss w none ends) = ss
 
 -- How masters change.
 pub whole_declared : (types : List TypeForm) (ss : Scopes) (number x : ℕ) (ms : List Master) (heap : List Object) → Whole types ss ms heap → Whole types ss (owning (record { number = number; owned = declared x }) ms) heap

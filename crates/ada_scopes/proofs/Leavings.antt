@@ -101,7 +101,7 @@ module _ (types : List TypeForm) (callees : Callees) (main : Option (List ℕ)) 
   backing_good v cause pool on_other s h = tt
   backing_good v cause pool (finds cell) s h = giving_good (same_pool pool cell.home.pool) v cause cell s h
 
-  pub parts_good : (bodies : List BodyForm) → BodiesNest types callees bodies → (definitions : List TypeDefinition) (k : List (Frame Value)) → (TreatsFirst k → OperationsHere types callees main calling definitions) → (s : State) → s.mode ≡ Running → Whole types ss s.masters s.heap → Goes types callees main calling ss (scopes s.masters) k → Good types callees main calling (running_next named definitions bodies k s)
+  pub parts_good : (bodies : List BodyForm) → BodiesNest types callees bodies → (definitions : List TypeDefinition) (k : List (Frame Value)) → (TreatsFirst k → OperationsHere types callees main calling (all_of ss) definitions) → (s : State) → s.mode ≡ Running → Whole types ss s.masters s.heap → Goes types callees main calling ss (scopes s.masters) k → Good types callees main calling (running_next named definitions bodies k s)
   parts_good bodies nesting definitions [] operations s runs p goes = absurd goes
   parts_good bodies nesting definitions (frame.Leaves mode ∷ k) operations s runs p goes = leave_good definitions mode s.masters (at k s) refl p runs goes
   parts_good bodies nesting definitions (frame.Treats v (frame.begins by done) tasks ∷ k) operations s runs p goes = absurd goes

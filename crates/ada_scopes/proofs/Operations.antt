@@ -32,6 +32,10 @@ found_so : (P : Operations → Type 0) (test : TypeDefinition → Bool) (types :
 found_so P test [] all = all 0
 found_so P test (t ∷ types) all = found_here P (test t) t (find test types) (all 0) (found_so P test types (λ i. all (suc i)))
 
+-- What holds of what each type overrides holds of what is found by the number of a type.
+pub operations_so : (P : Operations → Type 0) (types : List TypeDefinition) (n : ℕ) → ((t : ℕ) → P (operations_in (finalization_of (map type_form types) t))) → P (operations_of types n)
+operations_so P types n all = found_so P (λ t. is_number n (number_by (Some t))) types (λ i. subst P (same_operations types i) (all i))
+
 -- Those that nest anywhere.
 pub operations_here : (callees : Callees) (types : List TypeDefinition) (n : ℕ) → ((t : ℕ) → AllNestAnywhere callees (operations_in (finalization_of (map type_form types) t))) → AllNestAnywhere callees (operations_of types n)
 operations_here callees types n all =

@@ -11,15 +11,17 @@ use Rattle.ada_meaning.specs.State.{Master}
 use Rattle.ada_meaning.specs.Step.{halts, moves, tells, asks, picks}
 use Rattle.ada_meaning.specs.Named.{State, Next, next}
 use Rattle.ada_meaning.specs.Run.{Event, Choice, settled, grants, takes, Leads, Step, Run, here, there, first_state}
-use Rattle.ada_scopes.specs.Scopes.{AllNestWhereOpen, OperationsNest}
-use Rattle.ada_scopes.proofs.Counts.{times_append}
+use Rattle.ada_program.specs.declared.program.Operations.{Operations}
+use Rattle.ada_program.specs.declared.program.ProcedureNo.{ProcedureNo}
+use Rattle.ada_scopes.specs.Scopes.{NestsWhereOpen, AllNestWhereOpen, OperationsNest}
+use Rattle.ada_scopes.proofs.Counts.{times_append, scopes, all_of}
 use Rattle.ada_scopes.proofs.Operations.{operations_where_open}
 use Rattle.ada_scopes.proofs.Texts.{BodiesNest}
 use Rattle.ada_scopes.proofs.Bodies.{ProgramNests, program_nests}
-use Rattle.ada_scopes.proofs.Control.{HasMain, Whole, Growing, Nested, beginning, grows}
-use Rattle.ada_scopes.proofs.Lacked.{needed, KindsOpen, kinds_open}
+use Rattle.ada_scopes.proofs.Control.{HasMain, nests_within, goes_within, Whole, Growing, Nested, scopes_in, standing, beginning, parting, resting, grows}
+use Rattle.ada_scopes.proofs.Lacked.{needed, KindsOpen, kinds_open, lacked, lacked_here, lacked_open, lacked_so}
 use Rattle.ada_scopes.proofs.Evaluations.{Good}
-use Rattle.ada_scopes.proofs.Treatments.{TreatsFirst}
+use Rattle.ada_scopes.proofs.Treatments.{TreatsFirst, CallsIfAny}
 use Rattle.ada_scopes.proofs.Steps.{next_good}
 
 -- Whether operations are called.
@@ -43,6 +45,17 @@ pub record ScopedSo (finding : Bool) (p : ProgramForm) (s : State) : Type 0 wher
   pub kinds : KindsOpen p.types
   pub bodies : BodiesNest p.types (callees_of p) p.bodies
   pub nested : Nested p.types (callees_of p) (main_of finding p) (calls_in p) s
+
+-- The collections that masters have opened in such a state.
+abbrev pub scopes_of : (finding : Bool) (p : ProgramForm) (s : State) → ScopedSo finding p s → List ℕ
+scopes_of finding p s scoped = all_of (scopes_in p.types (callees_of p) (main_of finding p) (calls_in p) s scoped.nested)
+
+-- What a type overrides may be called there (7.6).
+abbrev pub CallsAt : (finding : Bool) (p : ProgramForm) (s : State) → ScopedSo finding p s → Operations → Type 0
+CallsAt finding p s scoped o =
+    CallsIfAny p.types (callees_of p) (main_of finding p) (scopes_of finding p s scoped) o.initialize
+    × CallsIfAny p.types (callees_of p) (main_of finding p) (scopes_of finding p s scoped) o.adjust
+    × CallsIfAny p.types (callees_of p) (main_of finding p) (scopes_of finding p s scoped) o.finalize
 
 -- So it is where operations nest wherever the collections of all access types are open.
 abbrev pub Scoped : ProgramForm → State → Type 0
@@ -110,9 +123,30 @@ led types callees main calling (asks request answers) (takes i) e after g l = ab
 led types callees main calling (picks n taking) settled e after g l = absurd l
 led types callees main calling (picks n taking) (grants granted) e after g l = absurd l
 
--- A step keeps that, if operations nest where a treatment is what is done next: no other step calls one.
-pub step_so : (finding : Bool) (program : Program) (s after : State) (choice : Choice) (e : Event) → (TreatsFirst s.control → OperationsNestSo finding (program_form program)) → ScopedSo finding (program_form program) s → Step program s choice e after → ScopedSo finding (program_form program) after
-step_so finding program s after choice e operations scoped step =
+-- Where an object is treated next, the collections of the main procedure are open that operations need.
+treated_within : (types : List TypeForm) (callees : Callees) (main : Option (List ℕ)) (calling : Bool) (s : State) (nested : Nested types callees main calling s) → TreatsFirst s.control
+    → HasMain main (all_of (scopes_in types callees main calling s nested))
+treated_within types callees main calling s (standing ss w n) first = nests_within types callees main calling ss (scopes s.masters) s.control n
+treated_within types callees main calling s (beginning b) first = absurd (subst TreatsFirst b.control first)
+treated_within types callees main calling s (parting ss w runs goes) first = goes_within types callees main calling ss (scopes s.masters) s.control goes
+treated_within types callees main calling s (resting ss w none ends) first = absurd (subst TreatsFirst ends first)
+
+-- An operation that nests where the collections are open that it needs may be called where these are: its master lacks the others.
+calls_where_open : (types : List TypeForm) (callees : Callees) (main : Option (List ℕ)) (opened : List ℕ) → KindsOpen types → HasMain main opened → (o : Option ProcedureNo)
+    → NestsWhereOpen (needed types main) callees o → CallsIfAny types callees main opened o
+calls_where_open types callees main opened kinds has None nests = tt
+calls_where_open types callees main opened kinds has (Some procedure) nests = record {
+  lacks = lacked types main opened;
+  lacking = lacked_here types main opened;
+  here = lacked_so types main opened kinds;
+  nests = nests (lacked types main opened ++ opened) (lacked_open types main opened has);
+}
+
+-- A step keeps that, if operations may be called where an object is treated next: no other step calls one.
+pub step_where : (finding : Bool) (program : Program) (s after : State) (choice : Choice) (e : Event) (scoped : ScopedSo finding (program_form program) s)
+    → (TreatsFirst s.control → (of : ℕ) → CallsAt finding (program_form program) s scoped (operations_of program.types.items of)) → Step program s choice e after
+    → ScopedSo finding (program_form program) after
+step_where finding program s after choice e scoped operations step =
     let p = program_form program in
     let types = program.types.items in
     let main = main_of finding p in
@@ -120,9 +154,26 @@ step_so finding program s after choice e operations scoped step =
       kinds = scoped.kinds;
       bodies = scoped.bodies;
       nested = led p.types (callees_of p) main (calls_in p) (next types p.bodies s) choice e after
-          (next_good p.types (callees_of p) main (calls_in p) p.bodies scoped.bodies types s
-          (λ first of. (operations_where_open (needed p.types main) (callees_of p) types of (operations first), none_called program of, scoped.kinds)) scoped.nested) step;
+          (next_good p.types (callees_of p) main (calls_in p) p.bodies scoped.bodies types s scoped.nested
+          (λ first of. let calls = operations first of in (calls.0, calls.1, calls.2, none_called program of))) step;
     }
+
+-- So it does, if operations nest where a treatment is what is done next.
+pub step_so : (finding : Bool) (program : Program) (s after : State) (choice : Choice) (e : Event) → (TreatsFirst s.control → OperationsNestSo finding (program_form program)) → ScopedSo finding (program_form program) s → Step program s choice e after → ScopedSo finding (program_form program) after
+step_so finding program s after choice e operations scoped step =
+    let p = program_form program in
+    let types = program.types.items in
+    let main = main_of finding p in
+    step_where finding program s after choice e scoped
+    (λ first of.
+    let has = treated_within p.types (callees_of p) main (calls_in p) s scoped.nested first in
+    let opened = scopes_of finding p s scoped in
+    let all = operations_where_open (needed p.types main) (callees_of p) types of (operations first) in
+    let o = operations_of types of in (
+      calls_where_open p.types (callees_of p) main opened scoped.kinds has o.initialize all.0,
+      calls_where_open p.types (callees_of p) main opened scoped.kinds has o.adjust all.1,
+      calls_where_open p.types (callees_of p) main opened scoped.kinds has o.finalize all.2,
+    )) step
 
 pub step_nested : (program : Program) (s after : State) (choice : Choice) (e : Event) → (TreatsFirst s.control → OperationsNest (program_form program)) → Scoped (program_form program) s → Step program s choice e after → Scoped (program_form program) after
 step_nested = step_so false

@@ -31,7 +31,7 @@ use Rattle.ada_meaning.specs.Step.{moves, has_parts, all_tasks, at, older, ownin
 use Rattle.ada_meaning.specs.Named.{Object, State, next, named, same, look, lent, parted, an_integer, filled, reads_boolean, reads_null, reads_integer, unary_given, binary_given}
 use Rattle.ada_scopes.proofs.Counts.{one, times, opened, Scopes, scopes, all_of}
 use Rattle.ada_scopes.proofs.Texts.{StatementNests, StatementsNest, BranchesNest, HandlersNest, BodyNests, BodiesNest}
-use Rattle.ada_scopes.proofs.Control.{Alike, Where, OwnsAll, RecordHere, FrameNests, behind, is_confine, Either, Around, Nests, NestsOutside, Goes, Whole, Growing, Begins, Nested, standing, beginning, parting, resting, outside_alike, whole_declared, nests_declared, whole_recorded, nests_recorded, nests_treating, opens, owns_grown, grows, grown}
+use Rattle.ada_scopes.proofs.Control.{scopes_in, Alike, Where, OwnsAll, RecordHere, FrameNests, behind, is_confine, Either, Around, Nests, NestsOutside, Goes, Whole, Growing, Begins, Nested, standing, beginning, parting, resting, outside_alike, whole_declared, nests_declared, whole_recorded, nests_recorded, nests_treating, opens, owns_grown, grows, grown}
 use Rattle.ada_scopes.proofs.Evaluations.{Good, Stands, keeps_filled, keeps_parted, whole_on, path_good, holder_good, record_holder_good, refers_good, open_good, opens_good, expression_good, null_test_good, links_good, outcome_good, items_good, copies_good, record_target_good, store_record_good, record_assign_good, assigns_good, new_good, right_good, free_good, free_in_good, end_good, back_good}
 use Rattle.ada_scopes.proofs.Treatments.{OperationsHere, IsTreatment, TreatsFirst, awaited_good, either_good, treats_good}
 use Rattle.ada_scopes.proofs.Leavings.{parts_good}
@@ -152,9 +152,9 @@ module _ (types : List TypeForm) (callees : Callees) (main : Option (List ℕ)) 
   call_good procedure actuals None s around at_body alike nest h = tt
   call_good procedure actuals (Some b) s around at_body alike nest h =
       standing ss h.0
-      (computing_nests actuals (scopes s.masters) (frame.Calls procedure b actuals ∷ s.control) ((around, alike, nesting procedure b around at_body nest), h.1))
+      (computing_nests actuals (scopes s.masters) (frame.Calls procedure b actuals ∷ s.control) ((around, alike, (nesting procedure b around at_body nest, nest)), h.1))
 
-  body_begins : (procedure : ℕ) (b : BodyForm) (actuals : List ActualForm) (values : List Value) (s : State) → s.mode ≡ Running → Where (all_of ss) (λ around. BodyNests types callees around b) → Stands types callees main calling ss s → Nested types callees main calling (begun named procedure b actuals values s)
+  body_begins : (procedure : ℕ) (b : BodyForm) (actuals : List ActualForm) (values : List Value) (s : State) → s.mode ≡ Running → Where (all_of ss) (λ around. BodyNests types callees around b × (call_nests (slice_get callees procedure) around ≡ true)) → Stands types callees main calling ss s → Nested types callees main calling (begun named procedure b actuals values s)
   body_begins procedure b actuals values s runs nest h = beginning (record {
     ss = ss;
     m = record { number = s.next; items = [] };
@@ -167,9 +167,9 @@ module _ (types : List TypeForm) (callees : Callees) (main : Option (List ℕ)) 
     masters = refl;
     control = refl;
     runs = runs;
-    growing = grows types main ss s.next s.masters s.heap b.declarations nest.0 nest.2.part nest.1 h.0;
-    statements = nest.2.statements;
-    handlers = nest.2.handlers;
+    growing = grows types main ss s.next s.masters s.heap b.declarations nest.0 nest.2.0.part nest.1 h.0;
+    statements = nest.2.0.statements;
+    handlers = nest.2.0.handlers;
     nests = inr (tt, h.1);
   })
 
@@ -239,7 +239,7 @@ module _ (types : List TypeForm) (callees : Callees) (main : Option (List ℕ)) 
       (w, ((nest.0, (nest.1.0, nest.1.1, (nest.1.2.0, nest.1.2.1, open_there.2)), nest.2), n))
 
   -- Each frame that is taken off.
-  frame_good : (definitions : List TypeDefinition) (f : Frame Value) → (IsTreatment f → OperationsHere types callees main calling definitions) → (s : State) → s.mode ≡ Running → Whole types ss s.masters s.heap → FrameNests types callees main calling ss (scopes s.masters) f → Behind f (scopes s.masters) s.control → Good types callees main calling (frame_next named definitions bodies f s)
+  frame_good : (definitions : List TypeDefinition) (f : Frame Value) → (IsTreatment f → OperationsHere types callees main calling (all_of ss) definitions) → (s : State) → s.mode ≡ Running → Whole types ss s.masters s.heap → FrameNests types callees main calling ss (scopes s.masters) f → Behind f (scopes s.masters) s.control → Good types callees main calling (frame_next named definitions bodies f s)
   frame_good definitions (frame.Elaborates ds fs hs) operations s runs w nest n = elaborated_good definitions ds fs hs s w nest n
   frame_good definitions (frame.Does fs) operations s runs w nest n = stmts_good definitions fs s runs nest (w, n)
   frame_good definitions (frame.Decides fs branches) operations s runs w nest n = decided_good fs branches (reads_boolean (newest named s)) (popped s) nest (w, n)
@@ -297,7 +297,7 @@ module _ (types : List TypeForm) (callees : Callees) (main : Option (List ℕ)) 
   frame_good definitions (frame.FreesIn access c) operations s runs w nest n = free_in_good types callees main calling ss definitions access (newest named s) c (look s.heap (newest named s)) (popped s) (w, n)
   frame_good definitions (frame.ClearsIn o c) operations s runs w nest n = store_good o c Null (look s.heap o) s (w, n)
 
-  stands_good : (definitions : List TypeDefinition) (k : List (Frame Value)) → (TreatsFirst k → OperationsHere types callees main calling definitions) → (s : State) → s.mode ≡ Running → Whole types ss s.masters s.heap → Nests types callees main calling ss (scopes s.masters) k → Good types callees main calling (running_next named definitions bodies k s)
+  stands_good : (definitions : List TypeDefinition) (k : List (Frame Value)) → (TreatsFirst k → OperationsHere types callees main calling (all_of ss) definitions) → (s : State) → s.mode ≡ Running → Whole types ss s.masters s.heap → Nests types callees main calling ss (scopes s.masters) k → Good types callees main calling (running_next named definitions bodies k s)
   stands_good definitions [] operations s runs w n = absurd n
   stands_good definitions (f ∷ k) operations s runs w n = frame_good definitions f operations (at k s) runs w n.0 n.1
 
@@ -402,7 +402,7 @@ module _ (types : List TypeForm) (callees : Callees) (main : Option (List ℕ)) 
   jump_good mode [] s jumps w n = absurd n
   jump_good mode (f ∷ k) s jumps w n = unwound_good f mode (at k s) jumps (lands (scopes s.masters) mode f n.0) w n.1
 
-  standing_good : (definitions : List TypeDefinition) (mode : Mode) (s : State) → (TreatsFirst s.control → OperationsHere types callees main calling definitions) → s.mode ≡ mode → Stands types callees main calling ss s → Good types callees main calling (mode_next named definitions bodies mode s)
+  standing_good : (definitions : List TypeDefinition) (mode : Mode) (s : State) → (TreatsFirst s.control → OperationsHere types callees main calling (all_of ss) definitions) → s.mode ≡ mode → Stands types callees main calling ss s → Good types callees main calling (mode_next named definitions bodies mode s)
   standing_good definitions Running s operations is h = stands_good definitions s.control operations s is h.0 h.1
   standing_good definitions (Raising e) s operations is h = jump_good (Raising e) s.control s tt h.0 h.1
   standing_good definitions Exiting s operations is h = jump_good Exiting s.control s tt h.0 h.1
@@ -531,12 +531,12 @@ module _ (types : List TypeForm) (callees : Callees) (main : Option (List ℕ)) 
   nothing_next definitions s ends Returning = subst (λ (k : List (Frame Value)). Good types callees main calling (jump_next named Returning k s)) (sym ends) tt
 
   -- A state that nests. Operations need to nest only where a treatment is what is done next.
-  pub next_good : (definitions : List TypeDefinition) (s : State) → (TreatsFirst s.control → OperationsHere types callees main calling definitions) → Nested types callees main calling s → Good types callees main calling (next definitions bodies s)
+  pub next_good : (definitions : List TypeDefinition) (s : State) → (nested : Nested types callees main calling s) → (TreatsFirst s.control → OperationsHere types callees main calling (all_of (scopes_in types callees main calling s nested)) definitions) → Good types callees main calling (next definitions bodies s)
   unfolding next
-  next_good definitions s operations (standing ss w n) = standing_good types callees main calling bodies nesting ss definitions s.mode s operations refl (w, n)
-  next_good definitions s operations (beginning b) =
+  next_good definitions s (standing ss w n) operations = standing_good types callees main calling bodies nesting ss definitions s.mode s operations refl (w, n)
+  next_good definitions s (beginning b) operations =
       subst (λ (mode : Mode). Good types callees main calling (mode_next named definitions bodies mode s)) (sym b.runs)
       (subst (λ (k : List (Frame Value)). Good types callees main calling (running_next named definitions bodies k s)) (sym b.control) (beginning_good definitions s b))
-  next_good definitions s operations (resting ss w none ends) = nothing_next definitions s ends s.mode
-  next_good definitions s operations (parting ss p runs goes) =
+  next_good definitions s (resting ss w none ends) operations = nothing_next definitions s ends s.mode
+  next_good definitions s (parting ss p runs goes) operations =
       subst (λ (mode : Mode). Good types callees main calling (mode_next named definitions bodies mode s)) (sym runs) (parts_good types callees main calling ss bodies nesting definitions s.control operations s runs p goes)

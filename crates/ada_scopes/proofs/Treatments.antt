@@ -12,7 +12,7 @@ use Rattle.ada_program.specs.declared.program.ProcedureNo.{ProcedureNo}
 use Rattle.ada_program.specs.declared.program.TypeDefinition.{TypeDefinition}
 use Rattle.ada_program.specs.Controlled.{no_operations, operations_of, procedure_number, shapes_of}
 use Rattle.ada_program.specs.ProgramForm.{TypeForm, BodyForm}
-use Rattle.ada_program.specs.Nested.{Callees, call_nests, collected, is_one_of}
+use Rattle.ada_program.specs.Nested.{Callees, call_nests, collected}
 use Rattle.ada_program.specs.WellFormed.{reached_components}
 use Rattle.ada_meaning.specs.declared.event.Birth.{Birth}
 use Rattle.ada_meaning.specs.declared.event.Birth.TheVariants.{Creation, Copy, Adjustment}
@@ -29,21 +29,33 @@ use Rattle.ada_meaning.specs.Named.{Object, State, named, look, on_object, born_
 use Rattle.ada_meaning.specs.Run.{Event}
 use Rattle.ada_meaning.specs.State.{counted}
 use Rattle.ada_meaning.specs.Step.{picked_task, halts, picks, direction_of, beginning as begun_by, at, treating, treated_on, operating, operation_next, part_reference, born_next, begun_next, awaited_next, ended_next, finalized_next, performed_next, treats_next}
-use Rattle.ada_scopes.specs.Scopes.{NestsWhereOpen, AllNestWhereOpen}
 use Rattle.ada_scopes.proofs.Counts.{open_within, Scopes, scopes, all_of}
 use Rattle.ada_scopes.proofs.Homes.{KeepsHome}
 use Rattle.ada_scopes.proofs.Texts.{BodyNests, BodiesNest}
-use Rattle.ada_scopes.proofs.Control.{Nests, Goes, Whole, Nested, standing, beginning, parting, Lacks, nests_within, nests_treating, goes_treating, grows_lacking}
-use Rattle.ada_scopes.proofs.Lacked.{needed, KindsOpen, lacked, lacked_here, lacked_open, IsLacked, lacked_so, within_after}
+use Rattle.ada_scopes.proofs.Control.{Nests, Goes, Whole, Nested, standing, beginning, parting, Lacks, nests_treating, goes_treating, grows_lacking}
+use Rattle.ada_scopes.proofs.Lacked.{IsLacked, within_after}
 use Rattle.ada_scopes.proofs.Evaluations.{Good, Stands, Parts, whole_on}
 
 keeps_treated : (change : PartState → PartState) (part : ℕ) (x : Object) → KeepsHome x (treated change part x)
 keeps_treated change part x = record { home = refl; access = refl; listed = λ e. e }
 
--- Each operation that a type overrides nests where the collections are open that operations need; none is overridden, where none is called.
-abbrev pub OperationsHere : List TypeForm → Callees → (main : Option (List ℕ)) → (calling : Bool) → List TypeDefinition → Type 0
-OperationsHere types callees main calling definitions =
-    (of : ℕ) → AllNestWhereOpen (needed types main) callees (operations_of definitions of) × (calling ≡ false → operations_of definitions of ≡ no_operations) × KindsOpen types
+-- A procedure may be called as operations are, where these collections are open: its master lacks some that are not, and with those it nests.
+pub record CallsHere (types : List TypeForm) (callees : Callees) (main : Option (List ℕ)) (there : List ℕ) (procedure : ℕ) : Type 0 where
+  pub lacks : List ℕ
+  pub lacking : Lacks main lacks
+  pub here : IsLacked types there lacks
+  pub nests : call_nests (slice_get callees procedure) (lacks ++ there) ≡ true
+
+-- So may one that overrides an operation, if one does.
+abbrev pub CallsIfAny : List TypeForm → Callees → (main : Option (List ℕ)) → (there : List ℕ) → Option ProcedureNo → Type 0
+CallsIfAny types callees main there None = Unit {0}
+CallsIfAny types callees main there (Some procedure) = CallsHere types callees main there procedure.0
+
+-- Each operation that a type overrides may be called where these are open; none is overridden, where none is called.
+abbrev pub OperationsHere : List TypeForm → Callees → (main : Option (List ℕ)) → (calling : Bool) → (there : List ℕ) → List TypeDefinition → Type 0
+OperationsHere types callees main calling there definitions =
+    (of : ℕ) → CallsIfAny types callees main there (operations_of definitions of).initialize × CallsIfAny types callees main there (operations_of definitions of).adjust
+    × CallsIfAny types callees main there (operations_of definitions of).finalize × (calling ≡ false → operations_of definitions of ≡ no_operations)
 
 -- A frame of this kind treats an object: no other frame calls an operation.
 abbrev pub IsTreatment : Frame Value → Type 0
@@ -56,27 +68,28 @@ TreatsFirst [] = ⊥
 TreatsFirst (f ∷ k) = IsTreatment f
 
 -- So it is of what is called, if anything is.
-abbrev Operates : List TypeForm → Callees → (main : Option (List ℕ)) → (calling : Bool) → Option ℕ → Type 0
-Operates types callees main calling None = Unit {0}
-Operates types callees main calling (Some procedure) =
-    ((around : List ℕ) → ((t : ℕ) → needed types main t ≡ true → is_one_of around t ≡ true) → call_nests (slice_get callees procedure) around ≡ true) × (calling ≡ true) × KindsOpen types
+abbrev Operates : List TypeForm → Callees → (main : Option (List ℕ)) → (calling : Bool) → (there : List ℕ) → Option ℕ → Type 0
+Operates types callees main calling there None = Unit {0}
+Operates types callees main calling there (Some procedure) = CallsHere types callees main there procedure × (calling ≡ true)
 
-module _ (types : List TypeForm) (callees : Callees) (main : Option (List ℕ)) (calling : Bool) (kinds : KindsOpen types) where
-  operates : (o : Option ProcedureNo) → NestsWhereOpen (needed types main) callees o → (calling ≡ false → o ≡ None) → Operates types callees main calling (procedure_number o)
-  operates None nests alone = tt
-  operates (Some procedure) nests alone = (nests, by calling refl, kinds)
+module _ (types : List TypeForm) (callees : Callees) (main : Option (List ℕ)) (calling : Bool) (there : List ℕ) where
+  operates : (o : Option ProcedureNo) → CallsIfAny types callees main there o → (calling ≡ false → o ≡ None) → Operates types callees main calling there (procedure_number o)
+  operates None calls alone = tt
+  operates (Some procedure) calls alone = (calls, by calling refl)
     where
       by : (b : Bool) → calling ≡ b → b ≡ true
       by true is = refl
       by false is = absurd (cc (alone is))
 
-  begins_so : (by : Birth) (o : Operations) → AllNestWhereOpen (needed types main) callees o → (calling ≡ false → o ≡ no_operations) → Operates types callees main calling (begun_by by o)
-  begins_so Creation o all alone = operates o.initialize all.0 (λ none. ap (λ (x : Operations). x.initialize) (alone none))
-  begins_so Copy o all alone = operates o.adjust all.1 (λ none. ap (λ (x : Operations). x.adjust) (alone none))
-  begins_so (Adjustment number) o all alone = operates o.adjust all.1 (λ none. ap (λ (x : Operations). x.adjust) (alone none))
+  begins_so : (by : Birth) (definitions : List TypeDefinition) (of : ℕ) → OperationsHere types callees main calling there definitions
+      → Operates types callees main calling there (begun_by by (operations_of definitions of))
+  begins_so Creation definitions of all = operates (operations_of definitions of).initialize (all of).0 (λ none. ap (λ (x : Operations). x.initialize) ((all of).3 none))
+  begins_so Copy definitions of all = operates (operations_of definitions of).adjust (all of).1 (λ none. ap (λ (x : Operations). x.adjust) ((all of).3 none))
+  begins_so (Adjustment number) definitions of all = operates (operations_of definitions of).adjust (all of).1 (λ none. ap (λ (x : Operations). x.adjust) ((all of).3 none))
 
-  ends_so : (o : Operations) → AllNestWhereOpen (needed types main) callees o → (calling ≡ false → o ≡ no_operations) → Operates types callees main calling (procedure_number o.finalize)
-  ends_so o all alone = operates o.finalize all.2 (λ none. ap (λ (x : Operations). x.finalize) (alone none))
+  ends_so : (definitions : List TypeDefinition) (of : ℕ) → OperationsHere types callees main calling there definitions
+      → Operates types callees main calling there (procedure_number (operations_of definitions of).finalize)
+  ends_so definitions of all = operates (operations_of definitions of).finalize (all of).2 (λ none. ap (λ (x : Operations). x.finalize) ((all of).3 none))
 
 module _ (types : List TypeForm) (callees : Callees) (main : Option (List ℕ)) (calling : Bool) (ss : Scopes) (bodies : List BodyForm) (nesting : BodiesNest types callees bodies) where
   -- The body of an operation begins, whose master lacks these.
@@ -101,13 +114,11 @@ module _ (types : List TypeForm) (callees : Callees) (main : Option (List ℕ)) 
     nests = inr (tt, n);
   })
 
-  operation_good : (procedure : ℕ) (body : Option BodyForm) (reference : Value) (behind : List (Frame Value)) (event : Event) (s : State) → slice_get bodies procedure ≡ body → Operates types callees main calling (Some procedure) → s.mode ≡ Running → Whole types ss s.masters s.heap → Nests types callees main calling ss (scopes s.masters) behind → Good types callees main calling (operation_next named procedure body reference behind event s)
+  operation_good : (procedure : ℕ) (body : Option BodyForm) (reference : Value) (behind : List (Frame Value)) (event : Event) (s : State) → slice_get bodies procedure ≡ body → Operates types callees main calling (all_of ss) (Some procedure) → s.mode ≡ Running → Whole types ss s.masters s.heap → Nests types callees main calling ss (scopes s.masters) behind → Good types callees main calling (operation_next named procedure body reference behind event s)
   operation_good procedure None reference behind event s at_body called runs w n = tt
   operation_good procedure (Some b) reference behind event s at_body called runs w n =
-      let lacks = lacked types main (all_of ss) in
-      let there = lacked_open types main (all_of ss) (nests_within types callees main calling ss (scopes s.masters) behind n) in
-      operating_good procedure b reference behind s lacks (lacked_here types main (all_of ss)) (lacked_so types main (all_of ss) called.2) runs
-      (nesting procedure b (lacks ++ all_of ss) at_body (called.0 (lacks ++ all_of ss) there)) w n
+      operating_good procedure b reference behind s called.0.lacks called.0.lacking called.0.here runs
+      (nesting procedure b (called.0.lacks ++ all_of ss) at_body called.0.nests) w n
 
   -- A part begins.
   born_good : (v : Value) (by : Birth) (done : List Part) (of part : ℕ) (tasks : List Task) (o : Option PartState) (s : State) → Stands types callees main calling ss s → Good types callees main calling (born_next named v by done of part tasks o s)
@@ -117,7 +128,7 @@ module _ (types : List TypeForm) (callees : Callees) (main : Option (List ℕ)) 
       standing ss (whole_on types callees main calling ss (treated change part) v s (keeps_treated change part) h.0)
       (nests_treating types callees main calling ss (scopes s.masters) v (frame.begins by (record { of = of; number = part } ∷ done)) tasks s.control h.1)
 
-  begun_good : (v : Value) (by : Birth) (done : List Part) (of part : ℕ) (tasks : List Task) (operation : Option ℕ) (o : Option PartState) (s : State) → Operates types callees main calling operation → s.mode ≡ Running → Stands types callees main calling ss s → Good types callees main calling (begun_next named bodies v by done of part tasks operation o s)
+  begun_good : (v : Value) (by : Birth) (done : List Part) (of part : ℕ) (tasks : List Task) (operation : Option ℕ) (o : Option PartState) (s : State) → Operates types callees main calling (all_of ss) operation → s.mode ≡ Running → Stands types callees main calling ss s → Good types callees main calling (begun_next named bodies v by done of part tasks operation o s)
   begun_good v by done of part tasks operation None s called runs h = tt
   begun_good v by done of part tasks None (Some p) s called runs h = born_good v by done of part tasks (Some p) s h
   begun_good v by done of part tasks (Some procedure) (Some p) s called runs h =
@@ -134,32 +145,32 @@ module _ (types : List TypeForm) (callees : Callees) (main : Option (List ℕ)) 
   either_good s w runs (inl n) = standing ss w n
   either_good s w runs (inr goes) = parting ss w runs goes
 
-  ended_good : (v : Value) (part : ℕ) (p : PartState) (behind : List (Frame Value)) (operation : Option ℕ) (event : Event) (s : State) → Operates types callees main calling operation → s.mode ≡ Running → Whole types ss s.masters s.heap → Nests types callees main calling ss (scopes s.masters) behind ⊎ Goes types callees main calling ss (scopes s.masters) behind → Good types callees main calling (ended_next named bodies v part p behind operation event s)
+  ended_good : (v : Value) (part : ℕ) (p : PartState) (behind : List (Frame Value)) (operation : Option ℕ) (event : Event) (s : State) → Operates types callees main calling (all_of ss) operation → s.mode ≡ Running → Whole types ss s.masters s.heap → Nests types callees main calling ss (scopes s.masters) behind ⊎ Goes types callees main calling ss (scopes s.masters) behind → Good types callees main calling (ended_next named bodies v part p behind operation event s)
   ended_good v part p behind None event s called runs w n = either_good (at behind s) w runs n
   ended_good v part p behind (Some procedure) event s called runs w n =
       operation_good procedure (slice_get bodies procedure) (part_reference named v part p) (frame.Confines ∷ behind) event s refl called runs w (called.1, n)
 
-  alive_good : (alive : Bool) (v : Value) (cause : Cause) (part : ℕ) (behind : List (Frame Value)) (operation : Option ℕ) (event : Event) (p : PartState) (s : State) → Operates types callees main calling operation → s.mode ≡ Running → Whole types ss s.masters s.heap → Nests types callees main calling ss (scopes s.masters) behind ⊎ Goes types callees main calling ss (scopes s.masters) behind → Good types callees main calling (if alive then ended_next named bodies v part p behind operation event (record s { heap = on_object (treated finalized_part part) s.heap v }) else halts (Erroneous FinalizesTwice))
+  alive_good : (alive : Bool) (v : Value) (cause : Cause) (part : ℕ) (behind : List (Frame Value)) (operation : Option ℕ) (event : Event) (p : PartState) (s : State) → Operates types callees main calling (all_of ss) operation → s.mode ≡ Running → Whole types ss s.masters s.heap → Nests types callees main calling ss (scopes s.masters) behind ⊎ Goes types callees main calling ss (scopes s.masters) behind → Good types callees main calling (if alive then ended_next named bodies v part p behind operation event (record s { heap = on_object (treated finalized_part part) s.heap v }) else halts (Erroneous FinalizesTwice))
   alive_good false v cause part behind operation event p s called runs w n = tt
   alive_good true v cause part behind operation event p s called runs w n =
       ended_good v part p behind operation event (record s { heap = on_object (treated finalized_part part) s.heap v }) called runs
       (whole_on types callees main calling ss (treated finalized_part part) v s (keeps_treated finalized_part part) w) n
 
-  finalized_good : (v : Value) (cause : Cause) (of part : ℕ) (tasks : List Task) (operation : Option ℕ) (o : Option PartState) (s : State) → Operates types callees main calling operation → s.mode ≡ Running → Whole types ss s.masters s.heap → Nests types callees main calling ss (scopes s.masters) (treating v (frame.ends cause) tasks s.control) ⊎ Goes types callees main calling ss (scopes s.masters) (treating v (frame.ends cause) tasks s.control) → Good types callees main calling (finalized_next named bodies v cause of part tasks operation o s)
+  finalized_good : (v : Value) (cause : Cause) (of part : ℕ) (tasks : List Task) (operation : Option ℕ) (o : Option PartState) (s : State) → Operates types callees main calling (all_of ss) operation → s.mode ≡ Running → Whole types ss s.masters s.heap → Nests types callees main calling ss (scopes s.masters) (treating v (frame.ends cause) tasks s.control) ⊎ Goes types callees main calling ss (scopes s.masters) (treating v (frame.ends cause) tasks s.control) → Good types callees main calling (finalized_next named bodies v cause of part tasks operation o s)
   finalized_good v cause of part tasks operation None s called runs w n = tt
   finalized_good v cause of part tasks operation (Some p) s called runs w n =
       alive_good p.alive v cause part (treating v (frame.ends cause) tasks s.control) operation (Finalized v part p.turn of p.number cause) p s called runs w n
 
-  module _ (definitions : List TypeDefinition) (operations : OperationsHere types callees main calling definitions) where
+  module _ (definitions : List TypeDefinition) (operations : OperationsHere types callees main calling (all_of ss) definitions) where
     performed_good : (v : Value) (treatment : Treatment) (of part : ℕ) (tasks : List Task) (found : Found (Cell Value)) (s : State) → s.mode ≡ Running → Stands types callees main calling ss s → Good types callees main calling (performed_next named definitions bodies v treatment of part tasks found s)
     performed_good v treatment of part tasks on_null s runs h = tt
     performed_good v treatment of part tasks on_gone s runs h = tt
     performed_good v treatment of part tasks on_other s runs h = tt
     performed_good v (frame.begins by done) of part tasks (finds cell) s runs h =
-        begun_good v by done of part tasks (begun_by by (operations_of definitions of)) (slice_get cell.parts part) s (begins_so types callees main calling (operations of).2 by (operations_of definitions of) (operations of).0 (operations of).1) runs h
+        begun_good v by done of part tasks (begun_by by (operations_of definitions of)) (slice_get cell.parts part) s (begins_so types callees main calling (all_of ss) by definitions of operations) runs h
     performed_good v (frame.ends cause) of part tasks (finds cell) s runs h =
         finalized_good v cause of part tasks (procedure_number (operations_of definitions of).finalize) (slice_get cell.parts part) s
-        (ends_so types callees main calling (operations of).2 (operations_of definitions of) (operations of).0 (operations of).1) runs h.0
+        (ends_so types callees main calling (all_of ss) definitions of operations) runs h.0
         (inl (nests_treating types callees main calling ss (scopes s.masters) v (frame.ends cause) tasks s.control h.1))
 
     picked_good : (none : Bool) (v : Value) (treatment : Treatment) (tasks : List Task) (count : ℕ) (s : State) → Stands types callees main calling ss s → Good types callees main calling (if none then halts Stuck else picks count (λ i. treated_on named v treatment (picked_task (shapes_of definitions) (direction_of treatment) tasks i) s))
@@ -180,7 +191,7 @@ module _ (types : List TypeForm) (callees : Callees) (main : Option (List ℕ)) 
     performing_good v cause of part tasks on_other s h = tt
     performing_good v cause of part tasks (finds cell) s h =
         finalized_good v cause of part tasks (procedure_number (operations_of definitions of).finalize) (slice_get cell.parts part) s
-        (ends_so types callees main calling (operations of).2 (operations_of definitions of) (operations of).0 (operations of).1) h.1 h.0
+        (ends_so types callees main calling (all_of ss) definitions of operations) h.1 h.0
         (inr (goes_treating types callees main calling ss (scopes s.masters) v cause tasks s.control h.2))
 
     picking_good : (none : Bool) (v : Value) (cause : Cause) (tasks : List Task) (count : ℕ) (s : State) → Parts types callees main calling ss s → Good types callees main calling (if none then halts Stuck else picks count (λ i. treated_on named v (frame.ends cause) (picked_task (shapes_of definitions) (direction_of (frame.ends cause)) tasks i) s))

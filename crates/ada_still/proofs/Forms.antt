@@ -6,7 +6,7 @@ use Rattle.std.specs.List.{slice_get, slice_index_or, AllByRecursion}
 use Rattle.std.proofs.lemmas.Bool.{and_parts, eqb-true}
 use Rattle.ada_program.specs.declared.program.TypeDefinition.{TypeDefinition}
 use Rattle.ada_program.specs.Form.{RecordPathForm, ExpressionForm, integer, boolean, reads, is_null, applied_to, chained, LinksForm, no_more_links, a_link, ItemForm, null_item, item_of_path, item_of_value, item_of_record, RightForm, nothing, value_of, allocates, allocates_default, computes}
-use Rattle.ada_program.specs.ProgramForm.{TypeForm, type_form}
+use Rattle.ada_program.specs.ProgramForm.{TypeForm, type_form, BodyForm}
 use Rattle.ada_values.specs.declared.operator.BinaryOperator.{BinaryOperator}
 use Rattle.ada_values.specs.declared.fault.OperatorFault.{OperatorFault}
 use Rattle.ada_values.specs.declared.fault.OperatorFault.TheVariants.{Overflow, DivisionByZero, WrongType}
@@ -38,53 +38,53 @@ use Rattle.ada_order.proofs.Numbers.{Counted}
 use Rattle.ada_scopes.proofs.Homes.{HasHome, home_has, Housed, housed_owning, housed_on, housed_new, IsEmpty, housed_shorter}
 use Rattle.ada_scopes.proofs.Evaluations.{keeps_parted, keeps_finished, keeps_returned, keeps_filled}
 use Rattle.ada_still.specs.Still.{right_keeps, holds_parts}
-use Rattle.ada_still.proofs.Sits.{no_tasks, bounds, IsOwned, IsEntered, SitsInside, Rests, AllRest, creates_none, collects_none, other, treating_sits, owning_sits}
+use Rattle.ada_still.proofs.Sits.{no_tasks, bounds, IsOwned, IsEntered, SitsInside, Rests, AllRest, creates_none, collects_none, other, treating_sits, IsElaborating, owning_elaborating, elaborating_entered}
 
 -- Components of an object get values (5.2).
 housed_from : (heap : List Object) (o : Value) (c : ℕ) (vs : List Value) (is : List Item) → Housed heap is → Housed (stored_from named heap o c vs) is
 housed_from heap o c [] is h = h
 housed_from heap o c (v ∷ vs) is h = housed_from (store heap o c v) o (c + 1) vs is (housed_on (filled c v) heap o is (keeps_filled c v) h)
 
-module _ (forms : List TypeForm) (still own : ℕ → Bool) (b : Bool) where
+module _ (forms : List TypeForm) (bodies : List BodyForm) (still own : ℕ → Bool) (b : Bool) where
   -- Paths and expressions (4.1, 4.4).
-  reading_sits : (cs : List ℕ) (v : Value) (s : State) → Rests forms still own b s → Rests forms still own b (reading named cs v s)
+  reading_sits : (cs : List ℕ) (v : Value) (s : State) → Rests forms bodies still own b s → Rests forms bodies still own b (reading named cs v s)
   reading_sits [] v s h = h
   reading_sits (c ∷ cs) v s h = ((tt, h.0), h.1)
 
-  component_sits : (v : Value) (cs : List ℕ) (found : Option Value) (s : State) → Rests forms still own b s
-      → AllRest forms still own b (component_next named v cs found s)
+  component_sits : (v : Value) (cs : List ℕ) (found : Option Value) (s : State) → Rests forms bodies still own b s
+      → AllRest forms bodies still own b (component_next named v cs found s)
   component_sits v cs None s h = tt
   component_sits v cs (Some u) s h = reading_sits cs u s h
 
-  follow_sits : (v : Value) (c : ℕ) (cs : List ℕ) (found : Found (Cell Value)) (s : State) → Rests forms still own b s
-      → AllRest forms still own b (follow_next named v c cs found s)
+  follow_sits : (v : Value) (c : ℕ) (cs : List ℕ) (found : Found (Cell Value)) (s : State) → Rests forms bodies still own b s
+      → AllRest forms bodies still own b (follow_next named v c cs found s)
   follow_sits v c cs on_null s h = h
   follow_sits v c cs on_gone s h = tt
   follow_sits v c cs on_other s h = tt
   follow_sits v c cs (finds cell) s h = component_sits v cs (slice_get cell.values c) s h
 
-  pub path_sits : (cs : List ℕ) (v : Value) (s : State) → Rests forms still own b s → AllRest forms still own b (path_next named cs v s)
+  pub path_sits : (cs : List ℕ) (v : Value) (s : State) → Rests forms bodies still own b s → AllRest forms bodies still own b (path_next named cs v s)
   path_sits [] v s h = h
   path_sits (c ∷ cs) v s h = follow_sits v c cs (look s.heap v) s h
 
   -- Where a path begins.
-  pub named_sits : (cs : List ℕ) (x : ℕ) (s : State) → Rests forms still own b s → AllRest forms still own b (named_next named cs x s)
+  pub named_sits : (cs : List ℕ) (x : ℕ) (s : State) → Rests forms bodies still own b s → AllRest forms bodies still own b (named_next named cs x s)
   named_sits cs x s h = path_sits (selected named (held named s x) cs) (whole (held named s x)) s h
 
-  pub holder_sits : (c : ℕ) (cs : List ℕ) (x : ℕ) (frame_of : ℕ → Frame Value) (s : State) → ((n : ℕ) → Rests forms still own b (at (frame_of n ∷ s.control) s))
-      → AllRest forms still own b (holder_next named c cs x frame_of s)
+  pub holder_sits : (c : ℕ) (cs : List ℕ) (x : ℕ) (frame_of : ℕ → Frame Value) (s : State) → ((n : ℕ) → Rests forms bodies still own b (at (frame_of n ∷ s.control) s))
+      → AllRest forms bodies still own b (holder_next named c cs x frame_of s)
   holder_sits c cs x frame_of s n =
       path_sits (before_last (inside (held named s x) c) cs) (whole (held named s x))
       (at (frame_of (last_of (inside (held named s x) c) cs) ∷ s.control) s) (n (last_of (inside (held named s x) c) cs))
 
   pub record_holder_sits : (p : RecordPathForm) (frame_of : Place → Frame Value) (s : State)
-      → ((place : Place) → Rests forms still own b (at (frame_of place ∷ s.control) s)) → AllRest forms still own b (record_holder_next named p frame_of s)
+      → ((place : Place) → Rests forms bodies still own b (at (frame_of place ∷ s.control) s)) → AllRest forms bodies still own b (record_holder_next named p frame_of s)
   record_holder_sits p frame_of s n =
       path_sits (selected named (held named s p.object.root) p.object.selectors) (whole (held named s p.object.root))
       (at (frame_of (place_in named (held named s p.object.root) p.object.selectors p) ∷ s.control) s)
       (n (place_in named (held named s p.object.root) p.object.selectors p))
 
-  pub expression_sits : (e : ExpressionForm) (s : State) → Rests forms still own b s → AllRest forms still own b (expression_next named e s)
+  pub expression_sits : (e : ExpressionForm) (s : State) → Rests forms bodies still own b s → AllRest forms bodies still own b (expression_next named e s)
   expression_sits (integer i) s h = h
   expression_sits (boolean b) s h = h
   expression_sits (reads path) s h = named_sits path.selectors path.root s h
@@ -92,66 +92,66 @@ module _ (forms : List TypeForm) (still own : ℕ → Bool) (b : Bool) where
   expression_sits (applied_to operator e) s h = ((tt, (tt, h.0)), h.1)
   expression_sits (chained e links) s h = ((tt, (tt, h.0)), h.1)
 
-  pub null_test_sits : (equal : Bool) (null : Option Bool) (s : State) → Rests forms still own b s
-      → AllRest forms still own b (null_test_next named equal null s)
+  pub null_test_sits : (equal : Bool) (null : Option Bool) (s : State) → Rests forms bodies still own b s
+      → AllRest forms bodies still own b (null_test_next named equal null s)
   null_test_sits equal None s h = tt
   null_test_sits true (Some null) s h = h
   null_test_sits false (Some null) s h = h
 
-  link_sits : (decided : Bool) (operator : BinaryOperator) (e : ExpressionForm) (links : LinksForm) (s : State) → Rests forms still own b s
-      → AllRest forms still own b (link_next named decided operator e links s)
+  link_sits : (decided : Bool) (operator : BinaryOperator) (e : ExpressionForm) (links : LinksForm) (s : State) → Rests forms bodies still own b s
+      → AllRest forms bodies still own b (link_next named decided operator e links s)
   link_sits true operator e links s h = ((tt, h.0), h.1)
   link_sits false operator e links s h = ((tt, (tt, (tt, h.0))), h.1)
 
-  pub links_sits : (links : LinksForm) (s : State) → Rests forms still own b s → AllRest forms still own b (links_next named links s)
+  pub links_sits : (links : LinksForm) (s : State) → Rests forms bodies still own b s → AllRest forms bodies still own b (links_next named links s)
   links_sits no_more_links s h = h
   links_sits (a_link operator e links) s h = link_sits (is_decided named operator (reads_boolean (newest named s))) operator e links s h
 
-  pub outcome_sits : (outcome : Result Value OperatorFault) (s : State) → Rests forms still own b s
-      → AllRest forms still own b (outcome_next named outcome s)
+  pub outcome_sits : (outcome : Result Value OperatorFault) (s : State) → Rests forms bodies still own b s
+      → AllRest forms bodies still own b (outcome_next named outcome s)
   outcome_sits (Ok v) s h = h
   outcome_sits (Err Overflow) s h = h
   outcome_sits (Err DivisionByZero) s h = h
   outcome_sits (Err WrongType) s h = tt
 
   -- Allocators, and what is assigned.
-  item_sits : (item : ItemForm) (s : State) → Rests forms still own b s → AllRest forms still own b (item_next named item s)
+  item_sits : (item : ItemForm) (s : State) → Rests forms bodies still own b s → AllRest forms bodies still own b (item_next named item s)
   item_sits null_item s h = h
   item_sits (item_of_path path) s h = named_sits path.selectors path.root s h
   item_sits (item_of_value e) s h = ((tt, h.0), h.1)
   item_sits (item_of_record p) s h = record_holder_sits p (λ place. frame.Copies place.component p.record_type) s (λ place. ((tt, h.0), h.1))
 
-  pub items_sits : (items : List ItemForm) (s : State) → Rests forms still own b s → AllRest forms still own b (items_next named items s)
+  pub items_sits : (items : List ItemForm) (s : State) → Rests forms bodies still own b s → AllRest forms bodies still own b (items_next named items s)
   items_sits [] s h = h
   items_sits (i ∷ is) s h = item_sits i (at (frame.Fills is ∷ s.control) s) ((tt, h.0), h.1)
 
   -- Records as wholes.
-  copied_sits : (o : Value) (found : Option (List Value)) (s : State) → Rests forms still own b s
-      → AllRest forms still own b (copied_next named o found s)
+  copied_sits : (o : Value) (found : Option (List Value)) (s : State) → Rests forms bodies still own b s
+      → AllRest forms bodies still own b (copied_next named o found s)
   copied_sits o None s h = tt
   copied_sits o (Some vs) s h = h
 
-  pub copies_sits : (o : Value) (first count : ℕ) (found : Found (Cell Value)) (s : State) → Rests forms still own b s
-      → AllRest forms still own b (copies_next named o first count found s)
+  pub copies_sits : (o : Value) (first count : ℕ) (found : Found (Cell Value)) (s : State) → Rests forms bodies still own b s
+      → AllRest forms bodies still own b (copies_next named o first count found s)
   copies_sits o first count on_null s h = h
   copies_sits o first count on_gone s h = tt
   copies_sits o first count on_other s h = tt
   copies_sits o first count (finds cell) s h = copied_sits o (record_in cell.values first count) s h
 
-  pub record_target_sits : (o : Value) (first count : ℕ) (items : List ItemForm) (found : Found (Cell Value)) (s : State) → Rests forms still own b s
-      → AllRest forms still own b (record_target_next named o first count items found s)
+  pub record_target_sits : (o : Value) (first count : ℕ) (items : List ItemForm) (found : Found (Cell Value)) (s : State) → Rests forms bodies still own b s
+      → AllRest forms bodies still own b (record_target_next named o first count items found s)
   record_target_sits o first count items on_null s h = h
   record_target_sits o first count items on_gone s h = tt
   record_target_sits o first count items on_other s h = tt
   record_target_sits o first count items (finds cell) s h = ((tt, (tt, h.0)), h.1)
 
-  record_stored_sits : (o : Value) (first : ℕ) (vs : List Value) (found : Option (List Value)) (s : State) → Rests forms still own b s
-      → AllRest forms still own b (record_stored_next named o first vs found s)
+  record_stored_sits : (o : Value) (first : ℕ) (vs : List Value) (found : Option (List Value)) (s : State) → Rests forms bodies still own b s
+      → AllRest forms bodies still own b (record_stored_next named o first vs found s)
   record_stored_sits o first vs None s h = tt
   record_stored_sits o first vs (Some before) s h = (h.0, housed_from s.heap o first vs (items_of s.masters) h.1)
 
-  pub store_record_sits : (o : Value) (first count : ℕ) (found : Found (Cell Value)) (s : State) → Rests forms still own b s
-      → AllRest forms still own b (store_record_next named o first count found s)
+  pub store_record_sits : (o : Value) (first count : ℕ) (found : Found (Cell Value)) (s : State) → Rests forms bodies still own b s
+      → AllRest forms bodies still own b (store_record_next named o first count found s)
   store_record_sits o first count on_null s h = tt
   store_record_sits o first count on_gone s h = tt
   store_record_sits o first count on_other s h = tt
@@ -159,7 +159,7 @@ module _ (forms : List TypeForm) (still own : ℕ → Bool) (b : Bool) where
       record_stored_sits o first (newest_ones named count s) (record_in cell.values first count) (without_newest named count s) h
 
   -- Records are assigned as wholes (5.2): where they have controlled parts, which still bodies do not assign, both are found first.
-  copy_sits : (target : RecordPathForm) (items : List ItemForm) (s : State) → b ≡ false → Rests forms still own b s → AllRest forms still own b (copy_next named target items s)
+  copy_sits : (target : RecordPathForm) (items : List ItemForm) (s : State) → b ≡ false → Rests forms bodies still own b s → AllRest forms bodies still own b (copy_next named target items s)
   copy_sits target [] s outside h = tt
   copy_sits target (null_item ∷ items) s outside h = tt
   copy_sits target (item_of_path path ∷ items) s outside h = tt
@@ -167,60 +167,60 @@ module _ (forms : List TypeForm) (still own : ℕ → Bool) (b : Bool) where
   copy_sits target (item_of_record source ∷ []) s outside h = ((tt, (tt, (outside, h.0))), h.1)
   copy_sits target (item_of_record source ∷ i ∷ items) s outside h = tt
 
-  pub record_assign_sits : (parts : Bool) (target : RecordPathForm) (items : List ItemForm) (s : State) → (b ≡ true → parts ≡ false) → Rests forms still own b s
-      → AllRest forms still own b (record_assign_next named parts target items s)
-  record_assign_sits true target items s none h = copy_sits target items s (other forms still own b (λ within. cc (none within))) h
+  pub record_assign_sits : (parts : Bool) (target : RecordPathForm) (items : List ItemForm) (s : State) → (b ≡ true → parts ≡ false) → Rests forms bodies still own b s
+      → AllRest forms bodies still own b (record_assign_next named parts target items s)
+  record_assign_sits true target items s none h = copy_sits target items s (other forms bodies still own b (λ within. cc (none within))) h
   record_assign_sits false target items s none h =
       record_holder_sits target (λ place. frame.TargetsRecord place.component target.record_type items) s (λ place. ((tt, h.0), h.1))
 
   -- What is passed by reference, and the components that get something back.
-  referred_sits : (o : Value) (place : Place) (found : Option (List Value)) (s : State) → Rests forms still own b s
-      → AllRest forms still own b (referred_next named o place found s)
+  referred_sits : (o : Value) (place : Place) (found : Option (List Value)) (s : State) → Rests forms bodies still own b s
+      → AllRest forms bodies still own b (referred_next named o place found s)
   referred_sits o place None s h = tt
   referred_sits o place (Some vs) s h = h
 
-  pub refers_sits : (o : Value) (place : Place) (count : ℕ) (found : Found (Cell Value)) (s : State) → Rests forms still own b s
-      → AllRest forms still own b (refers_next named o place count found s)
+  pub refers_sits : (o : Value) (place : Place) (count : ℕ) (found : Found (Cell Value)) (s : State) → Rests forms bodies still own b s
+      → AllRest forms bodies still own b (refers_next named o place count found s)
   refers_sits o place count on_null s h = h
   refers_sits o place count on_gone s h = tt
   refers_sits o place count on_other s h = tt
   refers_sits o place count (finds cell) s h = referred_sits o place (record_in cell.values place.component count) s h
 
-  pub open_sits : (cs : List ℕ) (x : ℕ) (s : State) → Rests forms still own b s → AllRest forms still own b (open_next named cs x s)
+  pub open_sits : (cs : List ℕ) (x : ℕ) (s : State) → Rests forms bodies still own b s → AllRest forms bodies still own b (open_next named cs x s)
   open_sits [] x s h = tt
   open_sits (c ∷ cs) x s h = holder_sits c cs x frame.OpensIn s (λ n. ((tt, h.0), h.1))
 
-  opened_sits : (o : Value) (c : ℕ) (found : Option Value) (s : State) → Rests forms still own b s
-      → AllRest forms still own b (opened_next named o c found s)
+  opened_sits : (o : Value) (c : ℕ) (found : Option Value) (s : State) → Rests forms bodies still own b s
+      → AllRest forms bodies still own b (opened_next named o c found s)
   opened_sits o c None s h = tt
   opened_sits o c (Some v) s h = h
 
-  pub opens_sits : (o : Value) (c : ℕ) (found : Found (Cell Value)) (s : State) → Rests forms still own b s
-      → AllRest forms still own b (opens_next named o c found s)
+  pub opens_sits : (o : Value) (c : ℕ) (found : Found (Cell Value)) (s : State) → Rests forms bodies still own b s
+      → AllRest forms bodies still own b (opens_next named o c found s)
   opens_sits o c on_null s h = h
   opens_sits o c on_gone s h = tt
   opens_sits o c on_other s h = tt
   opens_sits o c (finds cell) s h = opened_sits o c (slice_get cell.values c) s h
 
   -- What a Free leads to at its end (13.11.2).
-  pub end_sits : (v : Value) (found : Found (Cell Value)) (s : State) → Rests forms still own b s → AllRest forms still own b (end_next named v found s)
+  pub end_sits : (v : Value) (found : Found (Cell Value)) (s : State) → Rests forms bodies still own b s → AllRest forms bodies still own b (end_next named v found s)
   end_sits v on_null s h = tt
   end_sits v on_gone s h = tt
   end_sits v on_other s h = tt
   end_sits v (finds cell) s h = (h.0, housed_on finished s.heap v (items_of s.masters) keeps_finished h.1)
 
-  told_sits : (pool : Option ℕ) (v : Value) (event : Event) (s : State) → Rests forms still own b s
-      → AllRest forms still own b (told_back named pool v event (record s { heap = on_object returned s.heap v }))
+  told_sits : (pool : Option ℕ) (v : Value) (event : Event) (s : State) → Rests forms bodies still own b s
+      → AllRest forms bodies still own b (told_back named pool v event (record s { heap = on_object returned s.heap v }))
   told_sits None v event s h = (h.0, housed_on returned s.heap v (items_of s.masters) keeps_returned h.1)
   told_sits (Some pool) v event s h = (h.0, housed_on returned s.heap v (items_of s.masters) keeps_returned h.1)
 
-  given_sits : (fits : Bool) (v : Value) (cause : Cause) (cell : Cell Value) (s : State) → Rests forms still own b s
-      → AllRest forms still own b (if fits then given_back named v cause cell s else halts (Erroneous GivesElsewhere))
+  given_sits : (fits : Bool) (v : Value) (cause : Cause) (cell : Cell Value) (s : State) → Rests forms bodies still own b s
+      → AllRest forms bodies still own b (if fits then given_back named v cause cell s else halts (Erroneous GivesElsewhere))
   given_sits true v cause cell s h = told_sits cell.home.pool v (Back v cell.access cell.number cell.home.pool cell.home.subpool cause) s h
   given_sits false v cause cell s h = tt
 
-  pub back_sits : (v : Value) (cause : Cause) (pool : Option ℕ) (found : Found (Cell Value)) (s : State) → Rests forms still own b s
-      → AllRest forms still own b (back_next named v cause pool found s)
+  pub back_sits : (v : Value) (cause : Cause) (pool : Option ℕ) (found : Found (Cell Value)) (s : State) → Rests forms bodies still own b s
+      → AllRest forms bodies still own b (back_next named v cause pool found s)
   back_sits v cause pool on_null s h = tt
   back_sits v cause pool on_gone s h = tt
   back_sits v cause pool on_other s h = tt
@@ -234,75 +234,75 @@ module _ (forms : List TypeForm) where
   FoundIsBare on_other = Unit {0}
   FoundIsBare (finds cell) = holds_parts forms cell.access ≡ false
 
-module _ (forms : List TypeForm) (still own : ℕ → Bool) (b : Bool) (types : List TypeDefinition) (shown : map type_form types ≡ forms) where
+module _ (forms : List TypeForm) (bodies : List BodyForm) (still own : ℕ → Bool) (b : Bool) (types : List TypeDefinition) (shown : map type_form types ≡ forms) where
   -- In still bodies there is nothing to do for an object that such a text creates.
   none_to_do : (access : ℕ) (direction : Direction) → (b ≡ true → holds_parts forms access ≡ false) → b ≡ true → all_tasks types access direction ≡ []
   none_to_do access direction none within = no_tasks forms types shown access direction (none within)
 
   -- Allocators (4.8).
-  answered_sits : (access count words : ℕ) (home : Destination) (s : State) (granted : Bool) → home_of access s.masters ≡ Some home → (bounds forms still own b).creates access ≡ true
-      → Rests forms still own b s → Rests forms still own b (answered named types access count words home s granted)
+  answered_sits : (access count words : ℕ) (home : Destination) (s : State) (granted : Bool) → home_of access s.masters ≡ Some home → (bounds forms bodies still own b).creates access ≡ true
+      → Rests forms bodies still own b s → Rests forms bodies still own b (answered named types access count words home s granted)
   answered_sits access count words home s true at_home may h = (
-    treating_sits forms still own b (Names (record { 0 = length s.heap })) (frame.begins Creation []) (all_tasks types access PartsFirst) s.control s.masters
-        (none_to_do access PartsFirst (creates_none forms still own b access may)) h.0,
+    treating_sits forms bodies still own b (Names (record { 0 = length s.heap })) (frame.begins Creation []) (all_tasks types access PartsFirst) s.control s.masters
+        (none_to_do access PartsFirst (creates_none forms bodies still own b access may)) h.0,
     housed_new s.heap (new_cell named types access count home s) (items_of s.masters) (home_has access home s.masters at_home) h.1,
   )
   answered_sits access count words home s false at_home may h = h
 
-  pub new_sits : (access count words : ℕ) (home : Option Destination) (s : State) → home_of access s.masters ≡ home → (bounds forms still own b).creates access ≡ true
-      → Rests forms still own b s → AllRest forms still own b (new_next named types access count words home s)
+  pub new_sits : (access count words : ℕ) (home : Option Destination) (s : State) → home_of access s.masters ≡ home → (bounds forms bodies still own b).creates access ≡ true
+      → Rests forms bodies still own b s → AllRest forms bodies still own b (new_next named types access count words home s)
   new_sits access count words None s at_home may h = h
   new_sits access count words (Some home) s at_home may h = λ granted. answered_sits access count words home s granted at_home may h
 
-  pub right_sits : (right : RightForm) (s : State) → right_keeps (bounds forms still own b) right ≡ true → Rests forms still own b s → AllRest forms still own b (right_next named types right s)
+  pub right_sits : (right : RightForm) (s : State) → right_keeps (bounds forms bodies still own b) right ≡ true → Rests forms bodies still own b s → AllRest forms bodies still own b (right_next named types right s)
   right_sits nothing s may h = h
-  right_sits (value_of path) s may h = named_sits forms still own b path.selectors path.root s h
+  right_sits (value_of path) s may h = named_sits forms bodies still own b path.selectors path.root s h
   right_sits (allocates access items) s may h = ((tt, (may, h.0)), h.1)
   right_sits (allocates_default access) s may h = ((may, h.0), h.1)
   right_sits (computes e) s may h = ((tt, h.0), h.1)
 
   -- Free (13.11.2): what a still body frees has no controlled parts, so nothing is finalized.
   freeing_sits : (access : ℕ) (v : Value) (cell : Cell Value) (clears : Frame Value) (s : State) → (b ≡ true → holds_parts forms cell.access ≡ false)
-      → Rests forms still own b (at (clears ∷ s.control) s) → Rests forms still own b (freeing named types access v cell clears s)
+      → Rests forms bodies still own b (at (clears ∷ s.control) s) → Rests forms bodies still own b (freeing named types access v cell clears s)
   freeing_sits access v cell clears s none h =
       let back = frame.GivesBack v (Freeing s.next) (Some (pool_freed_to (home_of access s.masters))) in (
-        treating_sits forms still own b v (frame.ends (Freeing s.next)) (all_tasks types cell.access WholeFirst) (frame.Ends v ∷ back ∷ clears ∷ s.control) s.masters
+        treating_sits forms bodies still own b v (frame.ends (Freeing s.next)) (all_tasks types cell.access WholeFirst) (frame.Ends v ∷ back ∷ clears ∷ s.control) s.masters
             (none_to_do cell.access WholeFirst none) (tt, (tt, h.0)),
         housed_on parted s.heap v (items_of s.masters) keeps_parted h.1,
       )
 
   -- It is erroneous where the object is of another pool.
   freeing_next_sits : (access : ℕ) (v : Value) (cell : Cell Value) (clears : Frame Value) (event : Event) (s : State) → (b ≡ true → holds_parts forms cell.access ≡ false)
-      → Rests forms still own b (at (clears ∷ s.control) s) → AllRest forms still own b (freeing_next named types access v cell clears event s)
+      → Rests forms bodies still own b (at (clears ∷ s.control) s) → AllRest forms bodies still own b (freeing_next named types access v cell clears event s)
   freeing_next_sits access v cell clears event s none h = by_pool (same_pool (Some (pool_freed_to (home_of access s.masters))) cell.home.pool)
     where
-      by_pool : (fits : Bool) → AllRest forms still own b (if fits then moves event (freeing named types access v cell clears s) else halts (Erroneous GivesElsewhere))
+      by_pool : (fits : Bool) → AllRest forms bodies still own b (if fits then moves event (freeing named types access v cell clears s) else halts (Erroneous GivesElsewhere))
       by_pool true = freeing_sits access v cell clears s none h
       by_pool false = tt
 
-  pub free_sits : (access x : ℕ) (v : Value) (found : Found (Cell Value)) (s : State) → (b ≡ true → FoundIsBare forms found) → Rests forms still own b s
-      → AllRest forms still own b (free_next named types access x v found s)
+  pub free_sits : (access x : ℕ) (v : Value) (found : Found (Cell Value)) (s : State) → (b ≡ true → FoundIsBare forms found) → Rests forms bodies still own b s
+      → AllRest forms bodies still own b (free_next named types access x v found s)
   free_sits access x v on_null s none h = h
   free_sits access x v on_gone s none h = tt
   free_sits access x v on_other s none h = tt
   free_sits access x v (finds cell) s none h = freeing_next_sits access v cell (frame.Clears x) Quiet s none ((tt, h.0), h.1)
 
-  freed_sits : (access : ℕ) (o : Value) (c : ℕ) (v : Value) (found : Found (Cell Value)) (s : State) → (b ≡ true → FoundIsBare forms found) → Rests forms still own b s
-      → AllRest forms still own b (freed_next named types access o c v found s)
+  freed_sits : (access : ℕ) (o : Value) (c : ℕ) (v : Value) (found : Found (Cell Value)) (s : State) → (b ≡ true → FoundIsBare forms found) → Rests forms bodies still own b s
+      → AllRest forms bodies still own b (freed_next named types access o c v found s)
   freed_sits access o c v on_null s none h = h
   freed_sits access o c v on_gone s none h = tt
   freed_sits access o c v on_other s none h = tt
   freed_sits access o c v (finds cell) s none h = freeing_next_sits access v cell (frame.ClearsIn o c) (Followed o) s none ((tt, h.0), h.1)
 
   free_component_sits : (access : ℕ) (o : Value) (c : ℕ) (found : Option Value) (s : State)
-      → ((v : Value) → found ≡ Some v → b ≡ true → FoundIsBare forms (standing s.heap v)) → Rests forms still own b s
-      → AllRest forms still own b (free_component_next named types access o c found s)
+      → ((v : Value) → found ≡ Some v → b ≡ true → FoundIsBare forms (standing s.heap v)) → Rests forms bodies still own b s
+      → AllRest forms bodies still own b (free_component_next named types access o c found s)
   free_component_sits access o c None s bare h = tt
   free_component_sits access o c (Some v) s bare h = freed_sits access o c v (standing s.heap v) s (bare v refl) h
 
   pub free_in_sits : (access : ℕ) (o : Value) (c : ℕ) (found : Found (Cell Value)) (s : State)
-      → ((cell : Cell Value) (v : Value) → found ≡ finds cell → slice_get cell.values c ≡ Some v → b ≡ true → FoundIsBare forms (standing s.heap v)) → Rests forms still own b s
-      → AllRest forms still own b (free_in_next named types access o c found s)
+      → ((cell : Cell Value) (v : Value) → found ≡ finds cell → slice_get cell.values c ≡ Some v → b ≡ true → FoundIsBare forms (standing s.heap v)) → Rests forms bodies still own b s
+      → AllRest forms bodies still own b (free_in_next named types access o c found s)
   free_in_sits access o c on_null s bare h = h
   free_in_sits access o c on_gone s bare h = tt
   free_in_sits access o c on_other s bare h = tt
@@ -339,13 +339,13 @@ module _ (forms : List TypeForm) (still own : ℕ → Bool) (b : Bool) (types : 
   has_below n access pool (i ∷ is) counted (inr has) = let below = has_below n access pool is counted.1 has in omega (arith, below)
 
   -- What goes with an item that a still body declared has no controlled parts.
-  owned_bare : (owned : Owned) (access : ℕ) → IsOwned forms still own b owned → type_housed owned ≡ Some access → b ≡ true → holds_parts forms access ≡ false
+  owned_bare : (owned : Owned) (access : ℕ) → IsOwned forms bodies still own b owned → type_housed owned ≡ Some access → b ≡ true → holds_parts forms access ≡ false
   owned_bare (declared x) access may is within = absurd (cc is)
-  owned_bare (collection t pool) access may is within = let same : t ≡ access = cc is in subst (λ (u : ℕ). holds_parts forms u ≡ false) same (collects_none forms still own b t may within)
-  owned_bare (record_object t) access may is within = let same : t ≡ access = cc is in subst (λ (u : ℕ). holds_parts forms u ≡ false) same (creates_none forms still own b t may within)
+  owned_bare (collection t pool) access may is within = let same : t ≡ access = cc is in subst (λ (u : ℕ). holds_parts forms u ≡ false) same (collects_none forms bodies still own b t may within)
+  owned_bare (record_object t) access may is within = let same : t ≡ access = cc is in subst (λ (u : ℕ). holds_parts forms u ≡ false) same (creates_none forms bodies still own b t may within)
   owned_bare (storage_pool declaration number) access may is within = absurd (cc is)
 
-  member_bare : (item : Item) (others : List Item) (x : Object) → Counted (item ∷ others) → IsOwned forms still own b item.owned
+  member_bare : (item : Item) (others : List Item) (x : Object) → Counted (item ∷ others) → IsOwned forms bodies still own b item.owned
       → HasHome x.cell.home.item x.cell.access x.cell.home.pool (item ∷ others) → x.cell.home.item ≡ item.number → b ≡ true → holds_parts forms x.cell.access ≡ false
   member_bare item others x counted may (inl has) home within = owned_bare item.owned x.cell.access may has.1 within
   member_bare item others x counted may (inr has) home within =
@@ -358,7 +358,7 @@ module _ (forms : List TypeForm) (still own : ℕ → Bool) (b : Bool) (types : 
   existing_bare x Existing bare = bare
   existing_bare x Gone bare = tt
 
-  picked_bare : (heap : List Object) (item : Item) (others : List Item) (i : ℕ) → Counted (item ∷ others) → Housed heap (item ∷ others) → IsOwned forms still own b item.owned
+  picked_bare : (heap : List Object) (item : Item) (others : List Item) (i : ℕ) → Counted (item ∷ others) → Housed heap (item ∷ others) → IsOwned forms bodies still own b item.owned
       → b ≡ true → FoundIsBare forms (look heap (slice_index_or (members heap item.number) i Null))
   picked_bare heap item others i counted housed may within =
       one_of (λ (v : Value). FoundIsBare forms (look heap v)) (members heap item.number) i tt
@@ -369,13 +369,13 @@ module _ (forms : List TypeForm) (still own : ℕ → Bool) (b : Bool) (types : 
       subst (λ (m : ℕ). FoundIsBare forms (look heap (Names (record { 0 = m })))) (sym same) (subst (λ (found : Option Object). FoundIsBare forms (seen found)) (sym there) bare)))
 
   -- A master is being left (7.6.1): its newest item goes, or an object is taken before that.
-  taken_sits : (cause : Cause) (pool : Option ℕ) (v : Value) (found : Found (Cell Value)) (s : State) → (b ≡ true → FoundIsBare forms found) → Rests forms still own b s
-      → Rests forms still own b (taken_out named types cause pool v found s)
+  taken_sits : (cause : Cause) (pool : Option ℕ) (v : Value) (found : Found (Cell Value)) (s : State) → (b ≡ true → FoundIsBare forms found) → Rests forms bodies still own b s
+      → Rests forms bodies still own b (taken_out named types cause pool v found s)
   taken_sits cause pool v on_null s none h = ((tt, (tt, h.0)), housed_on parted s.heap v (items_of s.masters) keeps_parted h.1)
   taken_sits cause pool v on_gone s none h = ((tt, (tt, h.0)), housed_on parted s.heap v (items_of s.masters) keeps_parted h.1)
   taken_sits cause pool v on_other s none h = ((tt, (tt, h.0)), housed_on parted s.heap v (items_of s.masters) keeps_parted h.1)
   taken_sits cause pool v (finds cell) s none h = (
-    treating_sits forms still own b v (frame.ends cause) (all_tasks types cell.access WholeFirst) (frame.Ends v ∷ frame.GivesBack v cause pool ∷ s.control) s.masters
+    treating_sits forms bodies still own b v (frame.ends cause) (all_tasks types cell.access WholeFirst) (frame.Ends v ∷ frame.GivesBack v cause pool ∷ s.control) s.masters
         (none_to_do cell.access WholeFirst none) (tt, (tt, h.0)),
     housed_on parted s.heap v (items_of s.masters) keeps_parted h.1,
   )
@@ -385,14 +385,14 @@ module _ (forms : List TypeForm) (still own : ℕ → Bool) (b : Bool) (types : 
   mastered ms s = record s { masters = ms }
 
   shorter_sits : (mode : Mode) (m : ℕ) (item : Item) (items : List Item) (ms : List Master) (s : State) → IsEmpty s.heap item item.owned
-      → SitsInside forms still own b s.control (record { number = m; items = item ∷ items } ∷ ms) → Housed s.heap (items_of (record { number = m; items = item ∷ items } ∷ ms))
-      → Rests forms still own b (record (at (frame.Leaves mode ∷ s.control) s) { masters = record { number = m; items = items } ∷ ms })
+      → SitsInside forms bodies still own b s.control (record { number = m; items = item ∷ items } ∷ ms) → Housed s.heap (items_of (record { number = m; items = item ∷ items } ∷ ms))
+      → Rests forms bodies still own b (record (at (frame.Leaves mode ∷ s.control) s) { masters = record { number = m; items = items } ∷ ms })
   shorter_sits mode m item items ms s empty h housed = ((tt, (h.0.1, h.1)), housed_shorter s.heap m item items ms empty housed)
 
   members_sits : (mode : Mode) (cause : Cause) (pool : Option ℕ) (m : ℕ) (item : Item) (items : List Item) (ms : List Master) (vs : List Value) (s : State)
       → members s.heap item.number ≡ vs → (members s.heap item.number ≡ [] → IsEmpty s.heap item item.owned) → Counted (items_of (record { number = m; items = item ∷ items } ∷ ms))
-      → SitsInside forms still own b s.control (record { number = m; items = item ∷ items } ∷ ms) → Housed s.heap (items_of (record { number = m; items = item ∷ items } ∷ ms))
-      → AllRest forms still own b (members_next named types cause pool vs (at (frame.Leaves mode ∷ s.control) (mastered (record { number = m; items = item ∷ items } ∷ ms) s)))
+      → SitsInside forms bodies still own b s.control (record { number = m; items = item ∷ items } ∷ ms) → Housed s.heap (items_of (record { number = m; items = item ∷ items } ∷ ms))
+      → AllRest forms bodies still own b (members_next named types cause pool vs (at (frame.Leaves mode ∷ s.control) (mastered (record { number = m; items = item ∷ items } ∷ ms) s)))
   members_sits mode cause pool m item items ms [] s all empty counted h housed = shorter_sits mode m item items ms s (empty all) h housed
   members_sits mode cause pool m item items ms (v ∷ vs) s all empty counted h housed =
       λ i. let one = slice_index_or (v ∷ vs) i Null in
@@ -402,8 +402,8 @@ module _ (forms : List TypeForm) (still own : ℕ → Bool) (b : Bool) (types : 
 
   item_leave_sits : (mode : Mode) (m : ℕ) (item : Item) (items : List Item) (ms : List Master) (owned : Owned) (s : State) → item.owned ≡ owned
       → Counted (items_of (record { number = m; items = item ∷ items } ∷ ms))
-      → SitsInside forms still own b s.control (record { number = m; items = item ∷ items } ∷ ms) → Housed s.heap (items_of (record { number = m; items = item ∷ items } ∷ ms))
-      → AllRest forms still own b (item_leave_next named types m item owned (at (frame.Leaves mode ∷ s.control) (mastered (record { number = m; items = item ∷ items } ∷ ms) s)))
+      → SitsInside forms bodies still own b s.control (record { number = m; items = item ∷ items } ∷ ms) → Housed s.heap (items_of (record { number = m; items = item ∷ items } ∷ ms))
+      → AllRest forms bodies still own b (item_leave_next named types m item owned (at (frame.Leaves mode ∷ s.control) (mastered (record { number = m; items = item ∷ items } ∷ ms) s)))
   item_leave_sits mode m item items ms (declared x) s is counted h housed =
       shorter_sits mode m item items ms s (subst (λ (o : Owned). IsEmpty s.heap item o) (sym is) tt) h housed
   item_leave_sits mode m item items ms (storage_pool declaration number) s is counted h housed =
@@ -417,27 +417,27 @@ module _ (forms : List TypeForm) (still own : ℕ → Bool) (b : Bool) (types : 
 
   -- No item is left: what is behind the master goes on.
   master_leave_sits : (mode : Mode) (m : ℕ) (items : List Item) (ms : List Master) (s : State) → Counted (items_of (record { number = m; items = items } ∷ ms))
-      → SitsInside forms still own b s.control (record { number = m; items = items } ∷ ms) → Housed s.heap (items_of (record { number = m; items = items } ∷ ms))
-      → AllRest forms still own b (master_leave_next named types mode m items (mastered (record { number = m; items = items } ∷ ms) s))
+      → SitsInside forms bodies still own b s.control (record { number = m; items = items } ∷ ms) → Housed s.heap (items_of (record { number = m; items = items } ∷ ms))
+      → AllRest forms bodies still own b (master_leave_next named types mode m items (mastered (record { number = m; items = items } ∷ ms) s))
   master_leave_sits mode m [] ms s counted h housed = (h.1, housed)
   master_leave_sits mode m (item ∷ items) ms s counted h housed = item_leave_sits mode m item items ms item.owned s refl counted h housed
 
-  pub leave_sits : (mode : Mode) (ms : List Master) (s : State) → Counted (items_of ms) → SitsInside forms still own b s.control ms → Housed s.heap (items_of ms)
-      → AllRest forms still own b (leave_next named types mode ms (mastered ms s))
+  pub leave_sits : (mode : Mode) (ms : List Master) (s : State) → Counted (items_of ms) → SitsInside forms bodies still own b s.control ms → Housed s.heap (items_of ms)
+      → AllRest forms bodies still own b (leave_next named types mode ms (mastered ms s))
   leave_sits mode [] s counted h housed = tt
   leave_sits mode (m ∷ ms) s counted h housed = master_leave_sits mode m.number m.items ms s counted h housed
 
   -- A record object is made (3.3.1).
-  pub made_sits : (x t : ℕ) (by : Birth) (values : List Value) (s : State) → (bounds forms still own b).creates t ≡ true → IsEntered forms still own s.masters → Rests forms still own b s
-      → Rests forms still own b (made named types x t by values s)
-  made_sits x t by values s may entered h =
+  pub made_sits : (x t : ℕ) (by : Birth) (values : List Value) (s : State) → (bounds forms bodies still own b).creates t ≡ true → IsElaborating forms bodies still own s.control → Rests forms bodies still own b s
+      → Rests forms bodies still own b (made named types x t by values s)
+  made_sits x t by values s may elaborates h =
       let item : Item = record { number = height s.masters; owned = record_object t } in (
-        treating_sits forms still own b (Names (record { 0 = length s.heap })) (frame.begins by []) (all_tasks types t PartsFirst) s.control (owning item s.masters)
-            (none_to_do t PartsFirst (creates_none forms still own b t may)) (owning_sits forms still own b item s.control s.masters may refl h.0),
-        housed_new s.heap (record_cell named types t (height s.masters) values) (items_of (owning item s.masters)) (home_made s.masters entered)
+        treating_sits forms bodies still own b (Names (record { 0 = length s.heap })) (frame.begins by []) (all_tasks types t PartsFirst) s.control (owning item s.masters)
+            (none_to_do t PartsFirst (creates_none forms bodies still own b t may)) (owning_elaborating forms bodies still own b item s.control s.masters may elaborates h.0),
+        housed_new s.heap (record_cell named types t (height s.masters) values) (items_of (owning item s.masters)) (home_made s.masters (elaborating_entered forms bodies still own b s.control s.masters elaborates h.0))
             (housed_owning s.heap item s.masters h.1),
       )
     where
-      home_made : (ms : List Master) → IsEntered forms still own ms → HasHome (height s.masters) t None (items_of (owning (record { number = height s.masters; owned = record_object t }) ms))
+      home_made : (ms : List Master) → IsEntered forms bodies still own ms → HasHome (height s.masters) t None (items_of (owning (record { number = height s.masters; owned = record_object t }) ms))
       home_made [] none = absurd none
       home_made (m ∷ ms) some = inl (refl, refl, refl)

@@ -48,53 +48,53 @@ frees_its s freed (f ∷ k) is runs = tt
 
 module _ (program : Program) (well : IsWellFormed (program_form program)) (frees_own : FreesItsOwn (program_form program)) (own still : ℕ → Bool)
     (collect : CollectWhereStill own still (program_form program)) (input : List ℤ) where
-  fits : (procedure : ℕ) (body : BodyForm) → slice_get (body_forms program) procedure ≡ Some body → BodyFits (program_form program).types still own false body
+  fits : (procedure : ℕ) (body : BodyForm) → slice_get (body_forms program) procedure ≡ Some body → BodyFits (program_form program).types (body_forms program) still own false body
   fits procedure body at_body =
       elim (collect.bodies procedure body at_body) [
         | inl none ↦ inl none
         | inr is ↦ inr (collect.keeps procedure body at_body is)
       ]
 
-  step_some : (events : List Event) (s after : State) (choice : Choice) (e : Event) → Run program (first_state program input) events s → Kept program.types.items s
-      → SomeRests (program_form program).types still own s → Step program s choice e after → SomeRests (program_form program).types still own after
+  pub step_some : (events : List Event) (s after : State) (choice : Choice) (e : Event) → Run program (first_state program input) events s → Kept program.types.items s
+      → SomeRests (program_form program).types (body_forms program) still own s → Step program s choice e after → SomeRests (program_form program).types (body_forms program) still own after
   step_some events s after choice e run kept rests step =
-      led_next (SomeRests (program_form program).types still own) (next program.types.items (body_forms program) s) choice e after
-      (next_some (program_form program).types still own rests.0 program.types.items refl (body_forms program) fits collect.keeps s kept.counted (leaving_runs s kept.stands)
+      led_next (SomeRests (program_form program).types (body_forms program) still own) (next program.types.items (body_forms program) s) choice e after
+      (next_some (program_form program).types (body_forms program) still own rests.0 program.types.items refl fits collect.keeps s kept.counted (leaving_runs s kept.stands)
       (frees_its s (λ access o x about found. objects_are_freed_by_their_types program well frees_own input events s access o x run about found) s.control refl) rests.1) step
 
   run_some : (before : List Event) (s last : State) (events : List Event) → Run program (first_state program input) before s → Kept program.types.items s
-      → SomeRests (program_form program).types still own s → Run program s events last → SomeRests (program_form program).types still own last
+      → SomeRests (program_form program).types (body_forms program) still own s → Run program s events last → SomeRests (program_form program).types (body_forms program) still own last
   run_some before s last events so_far kept rests here = rests
   run_some before s last (e ∷ events) so_far kept rests (there choice mid step rest) =
       run_some (before ++ e ∷ []) mid last events (run_more e choice mid so_far step) (step_keeps program s choice e mid kept step)
       (step_some before s mid choice e so_far kept rests step) rest
 
-  first_some : SomeRests (program_form program).types still own (first_state program input)
+  pub first_some : SomeRests (program_form program).types (body_forms program) still own (first_state program input)
   first_some = (
     false,
     (
-      (part_keeps (program_form program).types still own false (declaration_forms program) (stmt_forms program) (handler_forms program) collect.main, (tt, tt)),
+      (part_keeps (program_form program).types (body_forms program) still own false (declaration_forms program) (stmt_forms program) (handler_forms program) collect.main, (tt, tt)),
       λ o x at listed. absurd (cc at),
     ),
   )
 
   -- Whatever a run comes to sits in still bodies, or behind them.
-  pub last_some : (events : List Event) (last : State) → Run program (first_state program input) events last → SomeRests (program_form program).types still own last
+  pub last_some : (events : List Event) (last : State) → Run program (first_state program input) events last → SomeRests (program_form program).types (body_forms program) still own last
   last_some events last run = run_some [] (first_state program input) last events here (kept_first program input) first_some run
 
 module _ (program : Program) (own still : ℕ → Bool) where
   -- Behind all still bodies no collection of these types is open.
-  owned_other : (owned : Owned) → IsOwned (program_form program).types still own false owned → IsOther own owned
+  owned_other : (owned : Owned) → IsOwned (program_form program).types (body_forms program) still own false owned → IsOther own owned
   owned_other (declared x) is = tt
   owned_other (collection access pool) is = not_true (own access) is
-  owned_other (record_object t) is = tt
+  owned_other (record_object t) is = not_true (own t) is
   owned_other (storage_pool declaration number) is = tt
 
-  are_other : (is : List Item) → AreOwned (program_form program).types still own false is → AreOther own is
+  are_other : (is : List Item) → AreOwned (program_form program).types (body_forms program) still own false is → AreOther own is
   are_other [] owned = tt
   are_other (i ∷ is) owned = (owned_other i.owned owned.0, are_other is owned.1)
 
-  none_open : (k : List (Frame Value)) (ms : List Master) → Sits (program_form program).types still own false k ms → NoneOpen own ms
+  pub none_open : (k : List (Frame Value)) (ms : List Master) → Sits (program_form program).types (body_forms program) still own false k ms → NoneOpen own ms
   none_open [] [] h = tt
   none_open [] (m ∷ ms) h = absurd h
   none_open (frame.Elaborates ds fs hs ∷ k) [] h = tt
@@ -107,11 +107,11 @@ module _ (program : Program) (own still : ℕ → Bool) where
   none_open (frame.Returns actuals references ∷ k) ms (any, inr h) = none_open k ms h.1
   none_open (f ∷ k) ms h = none_open k ms h.1
 
-  outside_open : (b : Bool) (k : List (Frame Value)) (ms : List Master) → b ≡ false → Sits (program_form program).types still own b k ms → NoneOpen own ms
-  outside_open b k ms outside h = none_open k ms (subst (λ (c : Bool). Sits (program_form program).types still own c k ms) outside h)
+  outside_open : (b : Bool) (k : List (Frame Value)) (ms : List Master) → b ≡ false → Sits (program_form program).types (body_forms program) still own b k ms → NoneOpen own ms
+  outside_open b k ms outside h = none_open k ms (subst (λ (c : Bool). Sits (program_form program).types (body_forms program) still own c k ms) outside h)
 
   -- So objects are treated, and operations end, where none is open.
-  pub sits_elsewhere : (b : Bool) (k : List (Frame Value)) (ms : List Master) → Sits (program_form program).types still own b k ms → TreatsWhereNoneIsOpen own k ms
+  pub sits_elsewhere : (b : Bool) (k : List (Frame Value)) (ms : List Master) → Sits (program_form program).types (body_forms program) still own b k ms → TreatsWhereNoneIsOpen own k ms
   sits_elsewhere b [] ms h = tt
   sits_elsewhere b (frame.Elaborates ds fs hs ∷ k) [] h = absurd h.1
   sits_elsewhere b (frame.Elaborates ds fs hs ∷ k) (m ∷ ms) h = (λ is. absurd (cc is), sits_elsewhere b k ms h.1.1)

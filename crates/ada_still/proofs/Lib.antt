@@ -14,5 +14,11 @@ pub mod Steps
 pub mod Law
 -- procedures that are found still in order
 pub mod Order
+-- what nests where none of these types is open
+pub mod Without
+-- so it is of all that is left to do
+pub mod Rebased
+-- operations nest beside the others
+pub mod Beside
 -- the premise is met, and needed
 pub mod Example

@@ -4,9 +4,10 @@ use Rattle.std.proofs.Common.{◌≡◌, ℕ, zero, suc, ◌+◌, Bool, true, fa
 use Rattle.std.specs.List.{slice_get, slice_index_or}
 use Rattle.std.proofs.lemmas.Bool.{and_from, and_parts}
 use Rattle.std.proofs.lemmas.List.{append_assoc}
+use Rattle.ada_program.specs.declared.program.Program.{Program}
 use Rattle.ada_program.specs.Form.{RightForm, nothing, value_of, allocates, allocates_default, computes, StmtForm, skips, assigns, assigns_record, frees, gets, writes, writes_text, chooses, repeats, counts, exits, calls, returns, raises, encloses, StmtsForm, no_stmts, a_stmt, BranchesForm, otherwise, a_branch, HandlersForm, no_handlers, a_handler, DeclarationForm, creates_pool, collects, declares, declares_record}
 use Rattle.ada_program.specs.ProgramForm.{TypeForm, BodyForm, program_form}
-use Rattle.ada_still.specs.Still.{Bounds, right_keeps, declaration_keeps, declarations_keep, stmt_keeps, stmts_keep, branches_keep, handlers_keep, still_bounds, is_still_body, still_from, is_still}
+use Rattle.ada_still.specs.Still.{Bounds, right_keeps, declaration_keeps, declarations_keep, stmt_keeps, stmts_keep, branches_keep, handlers_keep, still_bounds, is_still_body, still_from, is_still, CollectWhereStill, CollectStill}
 use Rattle.ada_still.specs.Law.{CollectionsStandStill}
 use Rattle.ada_still.proofs.Law.{stand_still}
 
@@ -124,11 +125,15 @@ found_still types known (c ∷ bs) (suc i) place b at there is =
     let longer = length_more known found in
     found_still types (known ++ found ∷ []) bs i place b (omega (arith, at, longer)) there is
 
+-- So where procedures are found still that declare such types, these are those of still procedures.
+pub where_still : (program : Program) (own : ℕ → Bool) → CollectStill own (program_form program) → CollectWhereStill own (λ procedure. is_still (program_form program) procedure) (program_form program)
+where_still program own collect = record {
+  main = collect.main;
+  bodies = collect.bodies;
+  keeps = λ procedure b there is. found_still (program_form program).types [] (program_form program).bodies procedure procedure b (omega arith) there is;
+}
+
 -- The law for the procedures that are found still.
 pub in_order : CollectionsStandStill
 in_order program well frees_own own collect =
-    stand_still program well frees_own own (λ procedure. is_still (program_form program) procedure) (record {
-      main = collect.main;
-      bodies = collect.bodies;
-      keeps = λ procedure b there is. found_still (program_form program).types [] (program_form program).bodies procedure procedure b (omega arith) there is;
-    })
+    stand_still program well frees_own own (λ procedure. is_still (program_form program) procedure) (where_still program own collect)

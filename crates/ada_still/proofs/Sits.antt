@@ -3,6 +3,7 @@
 
 use Rattle.std.proofs.Common.{◌≡◌, ◌⊎◌, inl, inr, ℕ, Bool, true, false, not, List, [], ◌∷◌, map, Option, Some, None, refl, sym, ap, ◌∙◌}
 use Rattle.std.specs.Prelude.{◌&&◌, is_some}
+use Rattle.std.specs.List.{slice_get}
 use Rattle.std.proofs.lemmas.Bool.{and_parts}
 use Rattle.ada_program.specs.declared.program.Finalization.{Finalization}
 use Rattle.ada_program.specs.declared.program.TypeDefinition.{TypeDefinition}
@@ -54,7 +55,7 @@ pub not_true : (b : Bool) → not b ≡ true → b ≡ false
 not_true true is = absurd (cc is)
 not_true false is = refl
 
-module _ (forms : List TypeForm) (still own : ℕ → Bool) where
+module _ (forms : List TypeForm) (bodies : List BodyForm) (still own : ℕ → Bool) where
   -- What the text of still bodies may do, or that of others.
   abbrev pub bounds : (within : Bool) → Bounds
   bounds true = still_bounds forms still
@@ -78,7 +79,7 @@ module _ (forms : List TypeForm) (still own : ℕ → Bool) where
   Holds b (frame.Ranges x fs) = stmts_keep (bounds b) fs ≡ true
   Holds b (frame.Counts x value last fs) = stmts_keep (bounds b) fs ≡ true
   Holds b (frame.Handles hs) = handlers_keep (bounds b) hs ≡ true
-  Holds b (frame.Calls procedure body actuals) = BodyFits b body
+  Holds b (frame.Calls procedure body actuals) = BodyFits b body × (slice_get bodies procedure ≡ Some body)
   Holds b (frame.Evaluates right) = right_keeps (bounds b) right ≡ true
   Holds b (frame.Targets c right) = right_keeps (bounds b) right ≡ true
   Holds b (frame.Creates access count) = (bounds b).creates access ≡ true
@@ -106,6 +107,12 @@ module _ (forms : List TypeForm) (still own : ℕ → Bool) where
   IsEntered [] = ⊥
   IsEntered (m ∷ ms) = Unit {0}
 
+  -- Declarations are elaborated next.
+  abbrev pub IsElaborating : List (Frame Value) → Type 0
+  IsElaborating [] = ⊥
+  IsElaborating (frame.Elaborates ds fs hs ∷ k) = Unit {0}
+  IsElaborating (f ∷ k) = ⊥
+
   -- Nothing is left to do, and no master is entered: not in a still body, which comes to its end before.
   abbrev pub IsDone : (within : Bool) → List Master → Type 0
   IsDone true ms = ⊥
@@ -125,7 +132,7 @@ module _ (forms : List TypeForm) (still own : ℕ → Bool) where
   Sits b (frame.Closes ∷ k) ms = Unit {0} × Inside b ms (λ (outside : List Master). Sits b k outside)
   Sits b (frame.Leaves mode ∷ k) ms = Unit {0} × Inside b ms (λ (outside : List Master). Sits b k outside)
   Sits b (frame.Returns actuals references ∷ k) ms = Unit {0} × (Sits b k ms ⊎ ((b ≡ true) × Sits false k ms))
-  Sits b (frame.DeclaresRecord x t ∷ k) ms = (((bounds b).creates t ≡ true) × IsEntered ms) × Sits b k ms
+  Sits b (frame.DeclaresRecord x t ∷ k) ms = (((bounds b).creates t ≡ true) × IsElaborating k) × Sits b k ms
   Sits b (f ∷ k) ms = Holds b f × Sits b k ms
 
   -- So it does behind the last frame of the innermost master.
@@ -184,10 +191,6 @@ module _ (forms : List TypeForm) (still own : ℕ → Bool) where
       (inner.0, (inner.1, outer.1))
 
   -- The innermost master owns something more.
-  entered_owning : (item : Item) (ms : List Master) → IsEntered ms → IsEntered (owning item ms)
-  entered_owning item [] h = absurd h
-  entered_owning item (m ∷ ms) h = tt
-
   pub owning_inside : (b : Bool) (item : Item) (k : List (Frame Value)) (ms : List Master) → IsOwned b item.owned → SitsInside b k ms → SitsInside b k (owning item ms)
   owning_inside b item k [] may h = absurd h
   owning_inside b item k (m ∷ ms) may h = ((may, h.0), h.1)
@@ -203,12 +206,22 @@ module _ (forms : List TypeForm) (still own : ℕ → Bool) where
   owning_sits b item (frame.Leaves mode ∷ k) ms may anywhere h = (tt, owning_inside b item k ms may h.1)
   owning_sits b item (frame.Returns actuals references ∷ k) ms may anywhere (own, inl h) = (tt, inl (owning_sits b item k ms may anywhere h))
   owning_sits b item (frame.Returns actuals references ∷ k) ms may anywhere (own, inr h) = (tt, inr (h.0, owning_sits false item k ms anywhere anywhere h.1))
-  owning_sits b item (frame.DeclaresRecord x t ∷ k) ms may anywhere h = ((h.0.0, entered_owning item ms h.0.1), owning_sits b item k ms may anywhere h.1)
   owning_sits b item (f ∷ k) ms may anywhere h = (h.0, owning_sits b item k ms may anywhere h.1)
 
-  pub inside_entered : (b : Bool) (k : List (Frame Value)) (ms : List Master) → SitsInside b k ms → IsEntered ms
+  -- So it may be anything that such a text may declare, where declarations are elaborated: the master is theirs.
+  pub owning_elaborating : (b : Bool) (item : Item) (k : List (Frame Value)) (ms : List Master) → IsOwned b item.owned → IsElaborating k → Sits b k ms → Sits b k (owning item ms)
+  owning_elaborating b item [] ms may elaborates h = absurd elaborates
+  owning_elaborating b item (frame.Elaborates ds fs hs ∷ k) ms may elaborates h = (h.0, owning_inside b item k ms may h.1)
+  owning_elaborating b item (f ∷ k) ms may elaborates h = absurd elaborates
+
+  inside_entered : (b : Bool) (k : List (Frame Value)) (ms : List Master) → SitsInside b k ms → IsEntered ms
   inside_entered b k [] h = absurd h
   inside_entered b k (m ∷ ms) h = tt
+
+  pub elaborating_entered : (b : Bool) (k : List (Frame Value)) (ms : List Master) → IsElaborating k → Sits b k ms → IsEntered ms
+  elaborating_entered b [] ms elaborates h = absurd elaborates
+  elaborating_entered b (frame.Elaborates ds fs hs ∷ k) ms elaborates h = inside_entered b k ms h.1
+  elaborating_entered b (f ∷ k) ms elaborates h = absurd elaborates
 
   -- The body of a call, or of an operation, begins, with a master of its own (6.4, 7.6): in front of a still body it is still, and in front of others it is like
   -- them, or still.

@@ -1,4 +1,4 @@
--- The law: as long as the collection of one of these access types is open, nothing is treated and no operation's body runs in front of its end.
+-- The law: as long as a collection or a record object of some types is there, nothing is treated and no operation's body runs in front of its end.
 
 use Rattle.std.specs.Prelude.{◌≡◌, ℕ, ℤ, Bool, true, false, if◌then◌else◌, List, [], ◌∷◌}
 use Rattle.ada_program.specs.declared.program.Program.{Program}
@@ -14,11 +14,11 @@ use Rattle.ada_meaning.specs.Named.{State}
 use Rattle.ada_meaning.specs.Run.{Event, Run, first_state}
 use Rattle.ada_still.specs.Still.{CollectWhereStill, CollectStill}
 
--- What a master owns is no collection of one of these access types (7.6.1).
+-- What a master owns is no collection of one of these types, and no record object that is known by one (7.6.1).
 abbrev pub IsOther : (own : ℕ → Bool) → Owned → Type 0
 IsOther own (declared x) = Unit {0}
 IsOther own (collection access pool) = own access ≡ false
-IsOther own (record_object t) = Unit {0}
+IsOther own (record_object t) = own t ≡ false
 IsOther own (storage_pool declaration number) = Unit {0}
 
 -- Nor is one of these items.
@@ -26,7 +26,7 @@ abbrev pub AreOther : (own : ℕ → Bool) → List Item → Type 0
 AreOther own [] = Unit {0}
 AreOther own (i ∷ is) = IsOther own i.owned × AreOther own is
 
--- No collection of one of these access types is open in these masters.
+-- No collection of one of these types is open in these masters, and they own no such record object.
 abbrev pub NoneOpen : (own : ℕ → Bool) → List Master → Type 0
 NoneOpen own [] = Unit {0}
 NoneOpen own (m ∷ ms) = AreOther own m.items × NoneOpen own ms
@@ -60,8 +60,9 @@ TreatsElsewhere program own =
     (input : List ℤ) (events : List Event) (last : State) → Run program (first_state program input) events last
     → TreatsWhereNoneIsOpen own last.control last.masters
 
--- While the collection of one of these access types is open, no treatment of controlled parts comes next, and no operation's body runs in front of its end: in
--- each well-formed program whose still procedures alone declare such collections, where each Free is by the instance for what it frees (13.11.2).
+-- While a collection of one of these types is open, or a record object that is known by one is there, no treatment of controlled parts comes next, and no
+-- operation's body runs in front of the end of the body that owns it: in each well-formed program whose still procedures alone declare such collections and create
+-- such objects, where each Free is by the instance for what it frees (13.11.2).
 abbrev pub CollectionsStandStill : Type 0
 CollectionsStandStill =
     (program : Program) → IsWellFormed (program_form program) → FreesItsOwn (program_form program) → (own : ℕ → Bool)

@@ -111,27 +111,27 @@ still_procedures p = still_from p.types [] p.bodies
 abbrev pub is_still : ProgramForm → (procedure : ℕ) → Bool
 is_still p procedure = slice_index_or (still_procedures p) procedure false
 
--- What a text may do that declares no collection of some access types: all else.
+-- What a text may do that declares no collection of some access types, and creates no object of these or known by some types: all else.
 abbrev pub bounds_without : (own : ℕ → Bool) → Bounds
 bounds_without own = record {
   collects = λ access. not (own access);
-  creates = λ t. true;
+  creates = λ t. not (own t);
   assigns = λ t. true;
   frees = λ access. true;
   calls = λ procedure. true;
 }
 
--- A body declares no collection of these access types (3.11, 5.6).
+-- A body declares no collection of these types, and creates no object of one (3.11, 4.8, 5.6).
 abbrev pub collects_none : (own : ℕ → Bool) → BodyForm → Bool
 collects_none own b = body_keeps (bounds_without own) b
 
--- The collections of some access types are declared by still procedures alone, where these are still: each is still as far as it calls such ones.
+-- Some types are those of still procedures: these alone declare their collections and create their objects, where each is still as far as it calls such ones.
 pub record CollectWhereStill (own still : ℕ → Bool) (p : ProgramForm) : Type 0 where
   pub main : collects_none own (main_body p) ≡ true
   pub bodies : (procedure : ℕ) (b : BodyForm) → slice_get p.bodies procedure ≡ Some b → (collects_none own b ≡ true) ⊎ (still procedure ≡ true)
   pub keeps : (procedure : ℕ) (b : BodyForm) → slice_get p.bodies procedure ≡ Some b → still procedure ≡ true → is_still_body p.types still b ≡ true
 
--- They are declared by still procedures of a program alone.
+-- They are those of the procedures of a program that are found still.
 pub record CollectStill (own : ℕ → Bool) (p : ProgramForm) : Type 0 where
   pub main : collects_none own (main_body p) ≡ true
   pub bodies : (procedure : ℕ) (b : BodyForm) → slice_get p.bodies procedure ≡ Some b → (collects_none own b ≡ true) ⊎ (is_still p procedure ≡ true)
