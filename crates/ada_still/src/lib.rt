@@ -4,7 +4,7 @@
 //! definitions of meaning, and its contract is the statement.
 //!
 //! What a crate above takes from here: `is_still` and `CollectStill` of `specs::Still`, `TreatsWhereNoneIsOpen` of `specs::Law`,
-//! `NestBeside` of `specs::Beside`, and `state_beside` of `proofs::Beside`, which says of each state of a run that it nests.
+//! `NestBeside` of `specs::Beside`, and `state_beside` and `step_beside` of `proofs::Beside`: each state of a run nests.
 #![tactic(auto)]
 
 pub mod laws;
