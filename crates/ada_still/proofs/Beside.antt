@@ -104,7 +104,7 @@ module _ (program : Program) (well : IsWellFormed (program_form program)) (frees
   FreeOf s scoped = (t : ℕ) → own t ≡ true → times t (scopes_of false p s scoped) ≡ 0
 
   -- Where an object is treated, what is left to do nests where none of these is open.
-  rebased : (s : State) (scoped : Scoped p s) → TreatsFirst s.control → Sits p.types (body_forms program) still own false s.control s.masters → (again : Scoped p s) × FreeOf s again
+  pub rebased : (s : State) (scoped : Scoped p s) → TreatsFirst s.control → Sits p.types (body_forms program) still own false s.control s.masters → (again : Scoped p s) × FreeOf s again
   rebased s scoped first h =
       let again = by scoped.nested in
       (record { kinds = scoped.kinds; bodies = scoped.bodies; nested = again.0 }, again.1)
@@ -135,7 +135,7 @@ module _ (program : Program) (well : IsWellFormed (program_form program)) (frees
       let may = calls_beside p.types (callees_of p) own beside.others (scopes_of false p s scoped) scoped.kinds free in
       (may o.initialize all.0, may o.adjust all.1, may o.finalize all.2)
 
-  step_beside : (s after : State) (choice : Choice) (e : Event) → SomeRests p.types (body_forms program) still own s → Scoped p s → Step program s choice e after → Scoped p after
+  pub step_beside : (s after : State) (choice : Choice) (e : Event) → SomeRests p.types (body_forms program) still own s → Scoped p s → Step program s choice e after → Scoped p after
   step_beside s after choice e rests scoped step = by (treats_now s.control)
     where
       by : TreatsFirst s.control ⊎ (TreatsFirst s.control → ⊥) → Scoped p after

@@ -1,6 +1,6 @@
 -- A Finalize declares an access type, and allocates an object of it; and one declares an object of its own type besides.
 
-use Rattle.std.proofs.Common.{◌≡◌, inr, ℕ, zero, suc, ◌==◌, ◌&&◌, ◌||◌, Bool, true, false, List, [], ◌∷◌, ◌++◌, map, refl, ap, arith, subst, sym}
+use Rattle.std.proofs.Common.{◌≡◌, inr, ℕ, zero, suc, ◌==◌, ◌&&◌, ◌||◌, Bool, true, false, List, [], ◌∷◌, ◌++◌, map, refl, ap, arith, subst, sym, ◌∙◌}
 use Rattle.std.specs.Prelude.{None, Some, pos}
 use Rattle.std.specs.List.{slice_get, slice_index_or, list_all}
 use Rattle.ada_program.specs.declared.program.ComponentKind.TheVariants as kind
@@ -17,8 +17,10 @@ use Rattle.ada_program.specs.declared.program.Variable.{Variable}
 use Rattle.ada_program.specs.declared.program.VariableKind.TheVariants as variable
 use Rattle.ada_program.specs.Form.{expression_form, stmt_form, skips, allocates_default, collects, declares, declares_record, DeclarationForm, StmtsForm, no_stmts, a_stmt, no_handlers, stmt_forms, statement_rules}
 use Rattle.ada_program.specs.Freed.{statements_free_own, body_frees_own, FreesItsOwn}
+use Rattle.ada_program.specs.Controlled.{operations_in}
+use Rattle.ada_program.specs.Nested.{Callees, call_nests, callees_from, collected, is_one_of, statements_nest, CollectionsNest}
 use Rattle.ada_program.specs.ProgramForm.{BodyForm, variable_form, body_forms, program_form}
-use Rattle.ada_program.specs.WellFormed.{IsWellFormed, created_in_all, creates_from, has_collections, profile_of, have_operations, bodies_fit, stmts_fit}
+use Rattle.ada_program.specs.WellFormed.{reached_components, finalization_of, IsWellFormed, created_in_all, creates_from, has_collections, profile_of, have_operations, bodies_fit, stmts_fit}
 use Rattle.ada_meaning.specs.declared.event.Halt.TheVariants.{Finished}
 use Rattle.ada_meaning.specs.declared.state.Value.{Value}
 use Rattle.ada_meaning.specs.Frame.{Frame}
@@ -30,6 +32,7 @@ use Rattle.ada_order.proofs.Choices.{run_by}
 use Rattle.ada_scopes.proofs.RecursionExample as recurring
 use Rattle.ada_scopes.proofs.Example.{steps, vec, no_name, cell_of, access_to, creations_with, no_pools}
 use Rattle.ada_still.specs.Still.{stmts_keep, bounds_without, still_from, CollectStill}
+use Rattle.ada_still.specs.Beside.{IsWithout, are_other_kinds, AllNestBeside, NestBeside}
 use Rattle.ada_still.specs.Law.{IsOther, AreOther, is_treatment, TreatsWhereNoneIsOpen, TreatsElsewhere}
 use Rattle.ada_still.specs.Example.{AllocatesInOperation, PremiseIsMet, PremiseIsNeeded}
 
@@ -167,8 +170,60 @@ finishes =
     run_by program bodies forms bodies_are forms_are (steps 7 ++ takes 0 ∷ steps 4 ++ grants true ∷ steps 7 ++ takes 0 ∷ steps 10)
     (λ events last. Halts program last Finished) refl refl
 
+-- Its collections nest, and the Finalize nests where none of its own is open.
+nests : CollectionsNest (program_form program)
+nests = record {
+  declarations = refl;
+  statements = of_both
+      (λ bs fs. statements_nest (program_form program).types (callees_from (program_form program).types [] bs) (collected (program_form program).declarations) fs)
+      refl;
+  handlers = refl;
+}
+
+abbrev callees : List BodyForm → Callees
+callees bs = callees_from (program_form program).types [] bs
+
+own_nests : (around : List ℕ) → is_one_of around 1 ≡ false → call_nests (slice_get (callees bodies) 0) around ≡ true
+own_nests around none = rw none refl
+
+and_none : (b : Bool) → (b && false) ≡ false
+and_none true = refl
+and_none false = refl
+
+nests_without : (procedure : ℕ) (all others : List ℕ) → IsWithout near all others → call_nests (slice_get (callees bodies) procedure) all ≡ true
+    → call_nests (slice_get (callees bodies) procedure) others ≡ true
+nests_without zero all others without is = own_nests others (without 1 ∙ and_none (is_one_of all 1))
+nests_without (suc procedure) all others without is = absurd (cc is)
+
+operations_beside : (t : ℕ) → AllNestBeside near (program_form program).types (callees bodies) (operations_in (finalization_of (program_form program).types t))
+operations_beside zero = (tt, tt, tt)
+operations_beside (suc zero) = (tt, tt, tt)
+operations_beside (suc (suc zero)) = (tt, tt, λ around opened none. own_nests around (none 1 refl))
+operations_beside (suc (suc (suc zero))) = (tt, tt, tt)
+operations_beside (suc (suc (suc (suc zero)))) = (tt, tt, tt)
+operations_beside (suc (suc (suc (suc (suc n))))) = (tt, tt, tt)
+
+other_kinds : (t : ℕ) → near t ≡ false → are_other_kinds near (reached_components (program_form program).types t) ≡ true
+other_kinds zero is = refl
+other_kinds (suc zero) is = refl
+other_kinds (suc (suc zero)) is = refl
+other_kinds (suc (suc (suc zero))) is = refl
+other_kinds (suc (suc (suc (suc zero)))) is = refl
+other_kinds (suc (suc (suc (suc (suc n))))) is = refl
+
+nests_beside : NestBeside near (program_form program)
+nests_beside = record {
+  others = other_kinds;
+  calls = λ procedure all others without.
+      subst (λ (bs : List BodyForm). call_nests (slice_get (callees bs) procedure) all ≡ true → call_nests (slice_get (callees bs) procedure) others ≡ true) (sym bodies_are)
+      (nests_without procedure all others without);
+  operations = λ t.
+      subst (λ (bs : List BodyForm). AllNestBeside near (program_form program).types (callees bs) (operations_in (finalization_of (program_form program).types t))) (sym bodies_are)
+      (operations_beside t);
+}
+
 pub premise_is_met : PremiseIsMet
-premise_is_met = (program, well_formed, frees_own, near, collects_still, allocated, finishes)
+premise_is_met = (program, well_formed, nests, frees_own, near, collects_still, nests_beside, allocated, finishes)
 
 -- In another such program the Finalize declares an object of its own type, Y : Link, in place of the allocator.
 abbrev recurring_bodies : List BodyForm

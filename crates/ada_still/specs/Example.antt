@@ -4,6 +4,7 @@ use Rattle.std.specs.Prelude.{◌≡◌, ℕ, Bool, true, Some}
 use Rattle.std.specs.List.{list_any}
 use Rattle.ada_program.specs.declared.program.Program.{Program}
 use Rattle.ada_program.specs.Freed.{FreesItsOwn}
+use Rattle.ada_program.specs.Nested.{CollectionsNest}
 use Rattle.ada_program.specs.ProgramForm.{program_form}
 use Rattle.ada_program.specs.WellFormed.{IsWellFormed}
 use Rattle.ada_meaning.specs.declared.event.Halt.TheVariants.{Finished}
@@ -13,6 +14,7 @@ use Rattle.ada_meaning.specs.Run.{Halts}
 use Rattle.ada_order.specs.Example.{InSomeRun}
 use Rattle.ada_scopes.specs.Scopes.{IsOpenIn}
 use Rattle.ada_still.specs.Still.{CollectStill}
+use Rattle.ada_still.specs.Beside.{NestBeside}
 use Rattle.ada_still.specs.Law.{is_treatment, TreatsElsewhere}
 
 -- An object lies in the open collection of one of these access types, and the body of an operation is in front of its end.
@@ -25,11 +27,12 @@ pub record AllocatesInOperation (own : ℕ → Bool) (s : State) : Type 0 where
   pub opened : IsOpenIn s.masters object.cell.access
   pub operates : list_any is_treatment s.control ≡ true
 
--- A well-formed program declares such an access type in the body of a Finalize alone, which is still. A run of it comes to an object in its collection, and one comes
--- to its end.
+-- A well-formed program whose collections nest declares such an access type in the body of a Finalize alone, which is still, and nests beside the others. A run of
+-- it comes to an object in its collection, and one comes to its end.
 abbrev pub PremiseIsMet : Type 0
 PremiseIsMet =
-    (program : Program) × IsWellFormed (program_form program) × FreesItsOwn (program_form program) × (own : ℕ → Bool) × CollectStill own (program_form program)
+    (program : Program) × IsWellFormed (program_form program) × CollectionsNest (program_form program) × FreesItsOwn (program_form program)
+    × (own : ℕ → Bool) × CollectStill own (program_form program) × NestBeside own (program_form program)
     × InSomeRun program (λ events last. AllocatesInOperation own last) × InSomeRun program (λ events last. Halts program last Finished)
 
 -- It is needed: in one whose Finalize declares such an access type, and an object of its own type, that is finalized while the collection is open.
