@@ -4,7 +4,7 @@
 pub mod Operands
 -- what a step looks at and writes
 pub mod Touched
--- no object ceases to exist
+-- the object of the record stays
 pub mod Ceasing
 -- a step leaves a body confined
 pub mod Staying

@@ -2,7 +2,7 @@
 
 use Rattle.std.proofs.Common.{◌≡◌, ℕ, zero, suc, Bool, true, false, List, [], ◌∷◌, length, map, take, refl, sym, ap, ◌∙◌, subst, ◌≢◌, ◌⊎◌, ◌+◌, ◌<◌, ◌++◌}
 use Rattle.std.proofs.lemmas.Bool.{eq-eqb}
-use Rattle.std.proofs.lemmas.List.Elements.{Contains-append_left, Contains-append_right}
+use Rattle.std.proofs.lemmas.List.Elements.{Contains-append_left}
 use Rattle.std.proofs.lemmas.Option.{slice_get-map}
 use Rattle.std.specs.List.{slice_get, slice_index_or, Contains}
 use Rattle.std.specs.Option.{option_map}
@@ -402,12 +402,7 @@ module _ (program : Program) (well : IsWellFormed (program_form program)) where
       copy_named : NameThere s.heap (values_at (own_owners ++ copy_owners) x.cell.values)
       copy_named = subst (λ (types : List TypeForm). NameThere s.heap (values_at (owners_left types access (performs c.of c.part ∷ c.tasks)) x.cell.values)) same c.to.named
 
-      -- So it is with those that are put aside.
-      pub copy_names_left : NameThere s.heap (values_at copy_owners x.cell.values)
-      copy_names_left =
-          names_alike s.heap (own_owners ++ copy_owners) copy_owners x.cell.values (λ d has. Contains-append_right own_owners copy_owners d has) copy_named
-
-      -- And with its own, where those are put aside.
+      -- So it is with its own, where those are put aside.
       own_named : NameThere copy_heap (values_at own_owners copy_object.cell.values)
       own_named =
           let real = names_alike s.heap (own_owners ++ copy_owners) own_owners x.cell.values (λ d has. Contains-append_left own_owners copy_owners d has) copy_named in

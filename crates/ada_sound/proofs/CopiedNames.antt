@@ -1,7 +1,7 @@
 -- What the components of a copy name that are put aside is there (7.6): those of the original name it, which are not.
 
-use Rattle.std.proofs.Common.{◌≡◌, ◌≢◌, ℕ, ◌+◌, ◌<◌, ◌≤◌, false, List, [], refl, sym, ap, subst, ◌∙◌, ◌⊎◌, inl, inr, arith}
-use Rattle.std.specs.Prelude.{Option, Some, None}
+use Rattle.std.proofs.Common.{◌≡◌, ◌≢◌, ℕ, ◌+◌, ◌<◌, false, List, refl, sym, ap, subst, ◌∙◌, ◌⊎◌, inl, inr, arith}
+use Rattle.std.specs.Prelude.{Some}
 use Rattle.std.specs.List.{Contains, slice_get, slice_index_or}
 use Rattle.ada_parts.specs.Task.{Task}
 use Rattle.ada_program.specs.declared.program.Program.{Program}
@@ -9,7 +9,6 @@ use Rattle.ada_program.specs.ProgramForm.{TypeForm, program_form}
 use Rattle.ada_program.specs.WellFormed.{IsWellFormed, record_components}
 use Rattle.ada_quiet.specs.InUse.{count_found}
 use Rattle.ada_meaning.specs.declared.state.Id.{Id}
-use Rattle.ada_meaning.specs.declared.state.Value.{Value}
 use Rattle.ada_meaning.specs.declared.state.Value.TheVariants.{Null, Names}
 use Rattle.ada_meaning.specs.Named.{Object, object_at}
 use Rattle.ada_owners.specs.Keeping.{IsThere}

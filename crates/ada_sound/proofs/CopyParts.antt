@@ -297,12 +297,6 @@ pub called_first :
 unfolding left_called
 called_first types access r tasks l of part due = refl
 
-pub called_part :
-    (types : List TypeForm) (access r : ℕ) (tasks : List Task) (l : CopyLeft types access r tasks) (of part : ℕ) (due : next tasks ≡ Perform of part)
-    → (left_called types access r tasks l of part due).part ≡ l.part
-unfolding left_called
-called_part types access r tasks l of part due = refl
-
 module _ (program : Program) (well : IsWellFormed (program_form program)) where
   abbrev types : List TypeForm
   types = (program_form program).types

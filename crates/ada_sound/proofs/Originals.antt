@@ -1,8 +1,8 @@
 -- Records that are copied, and where they come from (5.2, 7.6): what the copy names, the original names.
 
-use Rattle.std.proofs.Common.{◌≡◌, ◌≢◌, ℕ, zero, suc, ◌+◌, ◌<◌, ◌≤◌, List, [], ◌∷◌, length, refl, sym, ap, subst, ◌∙◌, ◌⊎◌, inl, inr, arith}
-use Rattle.std.specs.Prelude.{Option, Some, None}
-use Rattle.std.specs.List.{Contains, slice_get, slice_set}
+use Rattle.std.proofs.Common.{◌≡◌, ◌≢◌, ℕ, zero, suc, ◌+◌, ◌<◌, List, [], ◌∷◌, length, refl, sym, ap, subst, ◌∙◌, ◌⊎◌, inl, inr, arith}
+use Rattle.std.specs.Prelude.{Some}
+use Rattle.std.specs.List.{slice_get, slice_set}
 use Rattle.ada_program.specs.ProgramForm.{TypeForm}
 use Rattle.ada_program.specs.WellFormed.{object_named, record_components}
 use Rattle.ada_quiet.specs.InUse.{count_found}
@@ -16,7 +16,7 @@ use Rattle.ada_owners.proofs.Changes.{store_is}
 use Rattle.ada_owners.proofs.Kernel.{same_id}
 use Rattle.ada_typed.specs.Holding.{PartsLie}
 use Rattle.ada_sound.proofs.Objects.{set_get, set_here, set_other}
-use Rattle.ada_sound.proofs.CopiedOwners.{AreCopied, CopiedFrom, IsElsewhere, LieApart, LiesOutside, Original}
+use Rattle.ada_sound.proofs.CopiedOwners.{AreCopied, CopiedFrom, IsElsewhere, LiesOutside, Original}
 
 -- The object that a name has, once values are stored in its components, from one on.
 pub record IsStored (x : Object) (c : ℕ) (vs : List Value) (y : Object) : Type 0 where

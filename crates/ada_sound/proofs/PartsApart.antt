@@ -558,25 +558,6 @@ module _ (program : Program) (well : IsWellFormed (program_form program)) where
       let some = count_has q.number (parts_left shapes tasks) (number_among (parts_left shapes tasks) q has) in
       omega (arith, none, some)
 
-  -- Nothing is left behind the only part of a record.
-  pub alone_left :
-      (access r of part : ℕ) (tasks : List Task) → CopyLeft types access r (performs of part ∷ tasks) → part_count types r ≤ 1
-      → owners_left types access tasks ≡ []
-  alone_left access r of part tasks l most = go (parts_left shapes tasks) refl
-    where
-      go : (ps : List Part) → parts_left shapes tasks ≡ ps → owners_left types access tasks ≡ []
-      go [] is = ap (λ (ps : List Part). flat_map (part_owners types access) ps) is
-      go (q ∷ qs) is =
-          let p : Part = record { of = of; number = part } in
-          let has = subst (λ (ps : List Part). Contains ps q) (sym is) (head_in q qs) in
-          let first = bounds_left access r (performs of part ∷ tasks) l p (head_in p (parts_left shapes tasks)) in
-          let second = bounds_left access r (performs of part ∷ tasks) l q (tail_in p q (parts_left shapes tasks) has) in
-          let low = first.0 in
-          let high = first.1 in
-          let least = second.0 in
-          let last = second.1 in
-          absurd (not_left access r of part tasks l q has (omega (arith, low, high, least, last, most)))
-
   -- A component is hidden that a part declares which is left.
   pub record HiddenOf (access : ℕ) (parts : List Part) (c : ℕ) : Type 0 where
     pub part : Part

@@ -1,8 +1,8 @@
 -- States in which components of an object are put aside, as they hold null: where two heaps differ in what those hold alone, the one is the other with these put aside.
 
-use Rattle.std.proofs.Common.{◌≡◌, ◌≢◌, ℕ, zero, suc, ◌+◌, ◌==◌, ◌||◌, Bool, true, false, List, [], ◌∷◌, length, Option, Some, None, refl, sym, ap, ◌∙◌, ◌⊎◌, inl, inr, subst}
+use Rattle.std.proofs.Common.{◌≡◌, ◌≢◌, ℕ, ◌+◌, ◌==◌, Bool, true, false, List, [], ◌∷◌, length, Option, Some, None, refl, sym, ap, ◌∙◌, ◌⊎◌, inl, inr, subst}
 use Rattle.std.specs.Prelude.{is_some}
-use Rattle.std.specs.List.{slice_get, slice_index_or}
+use Rattle.std.specs.List.{slice_get}
 use Rattle.ada_parts.proofs.Facts.{eq_self}
 use Rattle.ada_meaning.specs.declared.state.Id.{Id}
 use Rattle.ada_meaning.specs.declared.state.Mode.{Mode}
@@ -14,7 +14,7 @@ use Rattle.ada_meaning.specs.Frame as frame
 use Rattle.ada_meaning.specs.Heap.{Cell}
 use Rattle.ada_meaning.specs.Named.{Object, State, object_at, changed}
 use Rattle.ada_beside.specs.Law.{hidden_beside, no_ghosts}
-use Rattle.ada_tracked.specs.Frames.{View, shifted, number_at, blank_values, blank_object, blanked, values_at}
+use Rattle.ada_tracked.specs.Frames.{View, shifted, number_at, blank_values, blank_object, blanked}
 use Rattle.ada_tracked.proofs.Lists.{apart_is, is_apart, set_length, untracked_read}
 use Rattle.ada_untouched.proofs.Heaps.{same_lists}
 use Rattle.ada_untouched.specs.Alike.{ValuesAlike, ObjectsAlike, FoundAlike, HeapsAlike, StatesAlike}
@@ -205,29 +205,3 @@ unwritten_aside hidden s heap = by s.mode s.control
     by (Raising e) (f ∷ k) shown = tt
     by Exiting (f ∷ k) shown = tt
     by Returning (f ∷ k) shown = tt
-
--- What an element holds, or null where there is none.
-held : Option Value → Value
-held None = Null
-held (Some v) = v
-
-read : (ws : List Value) (d : ℕ) → slice_index_or ws d Null ≡ held (slice_get ws d)
-unfolding held
-read [] d = refl
-read (v ∷ ws) zero = refl
-read (v ∷ ws) (suc d) = read ws d
-
--- Where each of these components holds the same, what they hold is the same.
-read_same : (us vs : List Value) (c : ℕ) → slice_get us c ≡ slice_get vs c → slice_index_or us c Null ≡ slice_index_or vs c Null
-read_same us vs c same = read us c ∙ ap held same ∙ sym (read vs c)
-
-pub values_same : (bs : List ℕ) (us vs : List Value) → ((c : ℕ) → is_one_of bs c ≡ true → slice_get us c ≡ slice_get vs c) → values_at bs us ≡ values_at bs vs
-values_same [] us vs each = refl
-values_same (b ∷ bs) us vs each =
-    let first : slice_index_or us b Null ≡ slice_index_or vs b Null = read_same us vs b (each b (rw (eq_self b) refl)) in
-    let later : values_at bs us ≡ values_at bs vs = values_same bs us vs (λ c is. each c (either (b == c) (is_one_of bs c) is)) in
-    rw (first, later) refl
-  where
-    either : (x y : Bool) → y ≡ true → (x || y) ≡ true
-    either true y is = refl
-    either false y is = is

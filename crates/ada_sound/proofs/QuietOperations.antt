@@ -458,7 +458,7 @@ AdjustsCopy (begins Copy done) = Unit {0}
 AdjustsCopy (begins (Adjustment number) done) = Unit {0}
 AdjustsCopy (ends cause) = ⊥
 
--- An Adjust may track components of its formal parameter: it is simple, and frees nothing where a record has two controlled parts.
+-- An Adjust may track components of its formal parameter: it is simple.
 abbrev pub MayTrack : ProgramForm → BodyForm → Type 0
 MayTrack p b = (may_track p ≡ true) × (is_simple_body p.types true b ≡ true)
 
