@@ -3,15 +3,15 @@
 //! Adjust that is never called is frugal that allocates, moves, follows and frees objects, and calls procedures with frugal bodies, but
 //! assigns a record with controlled parts as a whole only as below, and declares variables, which may be given what it allocates, and
 //! record objects, those with controlled parts by default, or as copies, where no Adjust tracks, or none is called for these (3.3.1, 7.6).
-//! It may assign to a record with controlled parts as a whole in a record object that it declares itself, where such a copy may be
-//! declared (5.2); and the body of an operation also to one that is inert, so that nothing is called, and that lies in a component of the
-//! formal parameter (7.6). No access value is followed to it. What a frugal body frees may have controlled
-//! parts, whichever operation it is (13.11.2): the operations that end these run inside. So may what it declares, and what it allocates
-//! that is initialized by default (4.8, 7.6): the operations that begin these run inside as well, also an Adjust, and those that end
-//! declared ones where their master is left. That a Finalize allocates is not refused here, but by rule S10. That what the declarations of
-//! bodies create comes back to none of them is asked by `ada_circles`. An exception may come out of a frugal Initialize; that none comes
-//! out of an Adjust or a Finalize, `ada_operations` asks of a program before. Which procedures are frugal is found before any operation is
-//! asked, in the order in which they call each other.
+//! It may assign to a record with controlled parts as a whole in a record object that it declares itself, where such a copy may be declared
+//! (5.2); and the body of an operation also to one that is inert, so that nothing is called, and that lies in a component of the formal
+//! parameter (7.6). No access value is followed to it. What a frugal body frees may have controlled parts, whichever operation it is
+//! (13.11.2): the operations that end these run inside. So may what it declares, and what it allocates that is initialized by default (4.8,
+//! 7.6): the operations that begin these run inside as well, also an Adjust, and those that end declared ones where their master is left.
+//! That a Finalize allocates is not refused here, but by rule S10. That what the declarations of bodies create comes back to none of them
+//! is asked by `ada_circles`. An exception may come out of a frugal Initialize; that none comes out of an Adjust or a Finalize,
+//! `ada_operations` asks of a program before. Which procedures are frugal is found before any operation is asked, in the order in which
+//! they call each other.
 //!
 //! Where nothing in the text of a program creates an object with controlled parts (3.3.1, 4.8), or assigns a record with some (5.2), no
 //! operation is called: operations are idle, and each is in use, whatever its body does. Where nothing in it copies such a record, no
@@ -56,8 +56,7 @@
 //! storage in another program, gives values to the components of objects with controlled parts that it allocates, declares other records
 //! with an initial value where an Adjust tracks, or assigns other records with such parts, an Adjust that tracks and frees objects with
 //! controlled parts, one that touches storage and does not track where a record type has both kinds of parts, operations that call
-//! procedures that are not frugal, and an Adjust that tracks and calls, declares record objects, or assigns records with controlled
-//! parts.
+//! procedures that are not frugal, and an Adjust that tracks and calls, declares record objects, or assigns records with controlled parts.
 #![tactic(auto)]
 
 mod apart;
