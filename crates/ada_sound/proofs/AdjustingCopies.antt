@@ -1,9 +1,8 @@
 -- Each step while the body of an Adjust runs that tracks components of its formal parameter (7.6), where other parts of the copy are adjusted later: the components
 -- that these see to are put aside meanwhile. The body touches none of them, so the real state takes the step of the one in which they hold null.
 
-use Rattle.std.proofs.Common.{◌≡◌, ◌≢◌, ◌||◌, ◌==◌, ◌+◌, not, ℕ, Bool, true, false, List, [], ◌∷◌, Option, Some, refl, sym, ap, ◌∙◌, ◌⊎◌, inl, inr, subst}
-use Rattle.std.proofs.lemmas.Bool.{eq-eqb, le-ltb, lt-ltb, true≢false}
-use Rattle.std.specs.Prelude.{nat_lt}
+use Rattle.std.proofs.Common.{◌≡◌, ◌≢◌, ◌||◌, ◌==◌, ◌+◌, ℕ, zero, suc, Bool, true, false, List, [], ◌∷◌, Option, Some, refl, sym, ap, ◌∙◌, ◌⊎◌, inl, inr, subst, arith}
+use Rattle.std.proofs.lemmas.Bool.{eq-eqb, eqb-true, false_from_ne_true, true≢false}
 use Rattle.std.specs.List.{Contains, slice_get}
 use Rattle.ada_deeds.specs.Implicit.{implicit_of}
 use Rattle.ada_beside.specs.Confined.{IsConfined}
@@ -32,13 +31,15 @@ use Rattle.ada_meaning.specs.State.{Master}
 use Rattle.ada_meaning.specs.Step.{halts, moves, tells, asks, picks, places}
 use Rattle.ada_owners.specs.Places.{is_there}
 use Rattle.ada_parts.proofs.Facts.{eq_self}
+use Rattle.ada_program.specs.declared.program.ComponentKind.{ComponentKind}
+use Rattle.ada_program.specs.declared.program.ComponentKind.TheVariants as component
 use Rattle.ada_program.specs.declared.program.Exception.{Exception}
 use Rattle.ada_program.specs.declared.program.Program.{Program}
 use Rattle.ada_program.specs.declared.program.TypeDefinition.{TypeDefinition}
 use Rattle.ada_program.specs.declared.program.TypeNo.{TypeNo}
 use Rattle.ada_program.specs.declared.program.VariableKind.TheVariants as variable
 use Rattle.ada_program.specs.Freed.{FreesItsOwn}
-use Rattle.ada_program.specs.ProgramForm.{BodyForm, body_forms, program_form, seen_in}
+use Rattle.ada_program.specs.ProgramForm.{TypeForm, BodyForm, body_forms, program_form, seen_in}
 use Rattle.ada_program.specs.WellFormed.{IsWellFormed, kind_among, object_named, reached_components, record_components}
 use Rattle.ada_quiet.specs.Bare.{has_bare_objects}
 use Rattle.ada_quiet.specs.InUse.{count_found, may_track}
@@ -61,8 +62,10 @@ use Rattle.ada_untouched.specs.Unwritten.{Unwritten}
 use Rattle.ada_sound.proofs.Adjusting.{Adjusting, AdjustingCopy, IsAside, LeavesAlone, LeftAlone, Shunned, is_one_of, is_this, put_aside, same_sparing}
 use Rattle.ada_sound.proofs.AdjustingEnds.{ComponentsAreThere, EndsCopy}
 use Rattle.ada_sound.proofs.AdjustingEnters.{filled_in_program}
-use Rattle.ada_sound.proofs.CopiedBare.{one_contained}
-use Rattle.ada_typed.specs.Holding.{PartsLie}
+use Rattle.ada_sound.proofs.CopiedBare.{EachIsAccess, one_contained}
+use Rattle.ada_typed.specs.Holding.{Cells, HaveKinds, IsBoolean, IsInteger, PartsLie, cells_of}
+use Rattle.ada_typed.proofs.Evaluations.{cell_at}
+use Rattle.ada_typed.proofs.Values.{filled_at}
 use Rattle.ada_sound.proofs.AdjustingGoes.{adjusting_goes, adjusting_returns, adjusting_stored, copies_no_access, is_watched, none_comes_out, spares_on}
 use Rattle.ada_sound.proofs.AdjustingSeen.{simple_begins}
 use Rattle.ada_sound.proofs.AdjustingSteps.{GoesAdjusting, InAdjusting, IsOrderly, SparesOn, houses_none}
@@ -87,6 +90,31 @@ use Rattle.ada_reaching.proofs.Law.{stays_reaching}
 use Rattle.ada_sound.proofs.Starts.{IsReached}
 use Rattle.ada_sound.proofs.StoredStates.{IsStored}
 use Rattle.ada_sound.proofs.TypedAside.{typed_aside}
+
+some_value : {v w : Value} → Some v ≡ Some w → v ≡ w
+some_value e = cc e
+
+-- A component that holds a name is of an access type (3.10).
+named_access :
+    (types : List TypeForm) (cells : Cells) (ks : List ComponentKind) (vs : List Value) → HaveKinds types cells ks vs → (c : ℕ) (q : Id)
+    → slice_get vs c ≡ Some (Names q) → (own : TypeNo) × (kind_among (Some ks) c ≡ Some (variable.Access own))
+named_access types cells [] [] have c q is = absurd (cc is)
+named_access types cells [] (v ∷ vs) have c q is = absurd have
+named_access types cells (k ∷ ks) [] have c q is = absurd have
+named_access types cells (component.Integer initial ∷ ks) (v ∷ vs) have zero q is = absurd (subst IsInteger (some_value is) have.0)
+named_access types cells (component.Boolean initial ∷ ks) (v ∷ vs) have zero q is = absurd (subst IsBoolean (some_value is) have.0)
+named_access types cells (component.Access own ∷ ks) (v ∷ vs) have zero q is = (own, refl)
+named_access types cells (k ∷ ks) (v ∷ vs) have (suc c) q is = named_access types cells ks vs have.1 c q is
+
+-- This one alone is.
+abbrev is_alone : ℕ → (component : ℕ) → Bool
+is_alone m c = m == c
+
+alone_is :
+    (types : List TypeForm) (access m : ℕ) → (own : TypeNo) × (kind_among (reached_components types access) m ≡ Some (variable.Access own))
+    → EachIsAccess types access (is_alone m)
+alone_is types access m of_access c is =
+    subst (λ (n : ℕ). (own : TypeNo) × (kind_among (reached_components types access) n ≡ Some (variable.Access own))) (eqb-true m c is) of_access
 
 -- What is treated behind the end of the running body is there.
 there_behind : (heap : List Object) (behind k : Control) → behind_call k ≡ Some (record { actuals = []; references = []; left = behind }) → Of (finalized.IsThere heap) (doings k) → Of (finalized.IsThere heap) (doings behind)
@@ -287,7 +315,7 @@ module _ (program : Program) (s : State) (d : AdjustingCopy program s) where
       × Shunned program a.copied.source f.behind f.lower after)
 
   -- Where some are, the body touches none of them.
-  module _ (a : IsAside program f.w d.object f.record_type d.left.0.first d.owners d.x.cell.values f.behind f.lower s) (watched : IsWatched f.w (places s) s.heap) (spares : SparesOn program f.w f.access f.behind f.lower s) (copies : CopiesNone tds f.w.object (is_one_of d.owners) s) (original : reaching.AllGoOn (OriginalStays f.w f.record_type d.left.0.first a) (next tds bodies s)) (inner : is_return_first s.control ≡ false) where
+  module _ (a : IsAside program f.w d.object f.record_type d.left.0.first d.owners d.x.cell.values f.behind f.lower s) (watched : IsWatched f.w (places s) s.heap) (spares : SparesOn program f.w f.access f.behind f.lower s) (copies : CopiesNone tds f.w.object (is_one_of d.owners) s) (bare : (these : (component : ℕ) → Bool) → EachIsAccess (program_form program).types d.x.cell.access these → CopiesNone tds f.w.object these s) (names : (c : ℕ) (q : Id) → slice_get d.x.cell.values c ≡ Some (Names q) → (own : TypeNo) × (kind_among (reached_components (program_form program).types d.x.cell.access) c ≡ Some (variable.Access own))) (original : reaching.AllGoOn (OriginalStays f.w f.record_type d.left.0.first a) (next tds bodies s)) (inner : is_return_first s.control ≡ false) where
     abbrev reaches : ℕ → Bool
     reaches = a.reaches
 
@@ -336,33 +364,25 @@ module _ (program : Program) (s : State) (d : AdjustingCopy program s) where
     abbrev width : ℕ
     width = count_found (record_components (program_form program).types f.record_type)
 
-    abbrev is_outside : ℕ → Bool
-    is_outside c = nat_lt c to || not (nat_lt c (to + width))
-
-    outside_apart : LieBeside f.w reaches is_outside
-    outside_apart e reached =
+    outside_apart : (m : ℕ) → LiesOutside to width m → LieBeside f.w reaches (is_alone m)
+    outside_apart m (inl before) e reached =
         let inside = a.within e reached in
-        let low : nat_lt (f.w.base + e) to ≡ false = le-ltb (f.w.base + e) to inside.0 in
-        let high : nat_lt (f.w.base + e) (to + width) ≡ true = lt-ltb (f.w.base + e) (to + width) inside.1 in
-        rw (low, high) refl
+        false_from_ne_true (is_alone m (f.w.base + e)) (λ is. let same = eqb-true m (f.w.base + e) is in omega (arith, same, before, inside.0))
+    outside_apart m (inr behind) e reached =
+        let inside = a.within e reached in
+        false_from_ne_true (is_alone m (f.w.base + e)) (λ is. let same = eqb-true m (f.w.base + e) is in omega (arith, same, behind, inside.1))
 
-    outside_is : (c : ℕ) → LiesOutside to width c → is_outside c ≡ true
-    outside_is c (inl before) = let low : nat_lt c to ≡ true = lt-ltb c to before in rw low refl
-    outside_is c (inr behind) = let high : nat_lt c (to + width) ≡ false = le-ltb c (to + width) behind in rw high (any_or (nat_lt c to))
-      where
-        any_or : (b : Bool) → (b || true) ≡ true
-        any_or true = refl
-        any_or false = refl
-
-    -- So it stays.
+    -- So it stays, where it holds a name: it is of an access type then, and no component of such a type is copied, or stored with a record.
     outside_there : (choice : Choice) (e : Event) (after : State) → Leads (next tds bodies s) choice e after
-        → (y : Object) → object_at after.heap d.object ≡ Some y → (c : ℕ) → LiesOutside to width c → slice_get y.cell.values c ≡ slice_get d.x.cell.values c
-    outside_there choice e after leads y at c outside =
-        let here : hidden_beside f.w is_outside f.w.object c ≡ true = rw (eq_self f.w.object.0) (outside_is c outside) in
+        → (y : Object) → object_at after.heap d.object ≡ Some y → (c : ℕ) → LiesOutside to width c → (q : Id) → slice_get d.x.cell.values c ≡ Some (Names q)
+        → slice_get y.cell.values c ≡ slice_get d.x.cell.values c
+    outside_there choice e after leads y at c outside q holds =
+        let here : hidden_beside f.w (is_alone c) f.w.object c ≡ true = rw (eq_self f.w.object.0) (eq_self c) in
         subst (λ (found : Option Object). component_in found c ≡ slice_get d.x.cell.values c) at
-        (hidden_stays tds bodies (hidden_beside f.w is_outside) s after choice e leads
-        (unwritten tds f.w reaches is_outside outside_apart s watched (within_now f.w.tracks.first s.control s.masters inner f.simple (λ left k at. houses_none program (aside s) f left k at)) confined)
-        d.object d.x d.found c (subst (λ (o : Id). hidden_beside f.w is_outside o c ≡ true) view_object here))
+        (hidden_stays tds bodies (hidden_beside f.w (is_alone c)) s after choice e leads
+        (unwritten tds f.w reaches (is_alone c) (outside_apart c outside) s watched (bare (is_alone c) (alone_is (program_form program).types d.x.cell.access c (names c q holds)))
+        (within_now f.w.tracks.first s.control s.masters inner f.simple (λ left k at. houses_none program (aside s) f left k at)) confined)
+        d.object d.x d.found c (subst (λ (o : Id). hidden_beside f.w (is_alone c) o c ≡ true) view_object here))
 
     -- What is put aside is that of the original, as before.
     aside_on : (choice : Choice) (e : Event) (after : State) → Leads (next tds bodies s) choice e after → GoesOn f.w reaches s.heap after
@@ -418,9 +438,10 @@ module _ (program : Program) (s : State) (d : AdjustingCopy program s) where
                     (ap (λ (z : Object). z.cell.access) one ∙ sym access) a.copied.lies;
                 elsewhere = λ same. a.copied.elsewhere (sym itself);
                 holds = λ n p has less outside holds.
-                    outside_there choice e after leads y at (a.copied.first + n) (outside refl)
-                    ∙ (ap (λ (z : Object). slice_get z.cell.values (a.copied.first + n)) (sym one)
-                    ∙ a.copied.holds n p has less (λ same. outside refl) (held (to + n) p has holds));
+                    let before : slice_get d.x.cell.values (a.copied.first + n) ≡ Some (Names p) =
+                    ap (λ (z : Object). slice_get z.cell.values (a.copied.first + n)) (sym one)
+                    ∙ a.copied.holds n p has less (λ same. outside refl) (held (to + n) p has holds) in
+                    outside_there choice e after leads y at (a.copied.first + n) (outside refl) p before ∙ before;
               };
               original = inl refl;
             }
@@ -516,6 +537,21 @@ module _
       copies_no_access program well may (put_aside d.owners d.object s) g s.heap typing d.x real_found real_like.0 (is_one_of d.owners)
       (λ c is. of_access c (one_contained d.owners c is)) d.sparing
 
+  -- Nor any component of an access type; and each is of such a type that holds a name.
+  bare_copied :
+      (these : (component : ℕ) → Bool) → EachIsAccess (program_form program).types d.x.cell.access these → CopiesNone program.types.items g.w.object these s
+  bare_copied these each =
+      copies_no_access program well may (put_aside d.owners d.object s) g s.heap typing d.x real_found real_like.0 these each d.sparing
+
+  names_of_access :
+      (c : ℕ) (q : Id) → slice_get d.x.cell.values c ≡ Some (Names q)
+      → (own : TypeNo) × (kind_among (reached_components (program_form program).types d.x.cell.access) c ≡ Some (variable.Access own))
+  names_of_access c q holds =
+      let filled = filled_in_program (program_form program) (running_procedure s) s typing.inside in
+      let own = filled_at (program_form program).types (cells_of s.heap) (cells_of s.heap) d.object.0 d.x.cell filled (cell_at s.heap d.object.0 d.x d.found) in
+      subst (λ (found : Option (List ComponentKind)). (own : TypeNo) × (kind_among found c ≡ Some (variable.Access own))) (sym own.1)
+      (named_access (program_form program).types (cells_of s.heap) own.0 d.x.cell.values own.2 c q holds)
+
   -- The original of the copy stays: where it lies in another object, the body leaves that as it is.
   original_stays :
       (a : IsAside program g.w d.object g.record_type d.left.0.first d.owners d.x.cell.values g.behind g.lower s) → is_return_first s.control ≡ false
@@ -544,7 +580,7 @@ module _
       let goes = adjusting_goes program well may frees (put_aside d.owners d.object s) (orderly_aside program well s reached d.owners d.object g nested) typing_aside g exists inner in
       elim d.left.1 [
         | inl none ↦ none_on program s d none goes
-        | inr a ↦ some_on program s d a watched (spared inner) none_copied (original_stays a inner) inner goes
+        | inr a ↦ some_on program s d a watched (spared inner) none_copied bare_copied names_of_access (original_stays a inner) inner goes
       ]
 
   -- Where the components come from that are put aside.

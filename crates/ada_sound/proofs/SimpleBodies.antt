@@ -1,6 +1,6 @@
 -- A simple body (7.6) is frugal, whatever is known of procedures: it calls none.
 
-use Rattle.std.proofs.Common.{◌≡◌, ℕ, Bool, true, ◌&&◌, List, [], ◌∷◌, drop, refl}
+use Rattle.std.proofs.Common.{◌≡◌, ℕ, Bool, true, false, ◌&&◌, List, [], ◌∷◌, drop, refl}
 use Rattle.std.specs.List.{list_all}
 use Rattle.std.specs.Prelude.{not, is_some, if◌then◌else◌}
 use Rattle.std.proofs.lemmas.Bool.{or_left, or_right}
@@ -100,7 +100,7 @@ module _ (allowance : Allowance) where
     thrifty_stmt (assigns target right) is = thrifty_right right is
     thrifty_stmt (assigns_record target items) is =
         let parted = is_some (finalization_of allowance.types target.record_type) in
-        or_left (not parted) (may_assign allowance false target.record_type) (apart (not parted) (list_all (is_bare_item allowance.types) items) is).0
+        or_left (not parted) (may_assign allowance target.record_type) (apart (not parted) (list_all (is_bare_item allowance.types) items) is).0
     thrifty_stmt (frees access path) is = or_right allowance.treats_parts (has_bare_objects allowance.types access) is
     thrifty_stmt (gets target) is = refl
     thrifty_stmt (writes e) is = refl
