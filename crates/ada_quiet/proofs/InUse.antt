@@ -67,7 +67,7 @@ pub uses_quiet_adjust : (p : ProgramForm) (owns : Bool) (o : Option ProcedureNo)
     uses_adjust p owns o ≡ true
 uses_quiet_adjust p owns o h none =
     either_second (adjusts_nothing p && is_frugal_operation p o) (uses_called_adjust p owns o)
-    (other_chosen (owns && is_some (operation_body p o)) (may_track p && is_simple_operation p true o)
+    (other_chosen (owns && is_some (operation_body p o)) (may_track p && is_simple_operation p o)
     (is_quiet_operation p o || (may_adjust_frugally p && is_frugal_operation p o)) none
     (either_first (is_quiet_operation p o) (may_adjust_frugally p && is_frugal_operation p o) h))
 

@@ -12,7 +12,7 @@ use Rattle.ada_quiet.specs.Simple.{is_simple_right, is_simple_declaration, are_s
 use Rattle.ada_quiet.specs.Quiet.{is_elementary, holds_elementary, is_quiet_path, is_quiet_expression, is_quiet_condition, is_quiet_right, is_quiet_declaration, are_quiet_declarations, is_quiet_stmt, are_quiet, are_quiet_branches, are_quiet_handlers, is_quiet_body}
 use Rattle.ada_quiet.proofs.InUse.{plain_body, second_of_both, others}
 
-module _ (types known : List TypeForm) (may_free : Bool) (variables : List VariableForm) where
+module _ (types known : List TypeForm) (variables : List VariableForm) where
   right_simple : (right : RightForm) → is_quiet_right types variables right ≡ true → is_simple_right known right ≡ true
   right_simple nothing quiet = absurd (cc quiet)
   right_simple (value_of path) quiet = absurd (cc quiet)
@@ -35,7 +35,7 @@ module _ (types known : List TypeForm) (may_free : Bool) (variables : List Varia
       (declaration_simple d) (declarations_simple ds) quiet
 
   mutual
-    stmt_simple : (f : StmtForm) → is_quiet_stmt types variables f ≡ true → is_simple_stmt known may_free f ≡ true
+    stmt_simple : (f : StmtForm) → is_quiet_stmt types variables f ≡ true → is_simple_stmt known f ≡ true
     stmt_simple skips quiet = refl
     stmt_simple (assigns target right) quiet =
         right_simple right (second_of_both (is_quiet_path types variables target) (is_quiet_right types variables right) quiet)
@@ -56,30 +56,30 @@ module _ (types known : List TypeForm) (may_free : Bool) (variables : List Varia
     stmt_simple (raises e) quiet = refl
     stmt_simple (encloses ds fs hs) quiet =
         others (are_quiet_declarations types variables ds && are_quiet types variables fs) (are_quiet_handlers types variables hs)
-        (are_simple_declarations known ds && are_simple known may_free fs) (are_simple_handlers known may_free hs)
-        (others (are_quiet_declarations types variables ds) (are_quiet types variables fs) (are_simple_declarations known ds) (are_simple known may_free fs)
+        (are_simple_declarations known ds && are_simple known fs) (are_simple_handlers known hs)
+        (others (are_quiet_declarations types variables ds) (are_quiet types variables fs) (are_simple_declarations known ds) (are_simple known fs)
         (declarations_simple ds) (stmts_simple fs))
         (handlers_simple hs) quiet
 
-    stmts_simple : (fs : StmtsForm) → are_quiet types variables fs ≡ true → are_simple known may_free fs ≡ true
+    stmts_simple : (fs : StmtsForm) → are_quiet types variables fs ≡ true → are_simple known fs ≡ true
     stmts_simple no_stmts quiet = refl
     stmts_simple (a_stmt f fs) quiet =
-        others (is_quiet_stmt types variables f) (are_quiet types variables fs) (is_simple_stmt known may_free f) (are_simple known may_free fs)
+        others (is_quiet_stmt types variables f) (are_quiet types variables fs) (is_simple_stmt known f) (are_simple known fs)
         (stmt_simple f) (stmts_simple fs) quiet
 
-    branches_simple : (branches : BranchesForm) → are_quiet_branches types variables branches ≡ true → are_simple_branches known may_free branches ≡ true
+    branches_simple : (branches : BranchesForm) → are_quiet_branches types variables branches ≡ true → are_simple_branches known branches ≡ true
     branches_simple (otherwise fs) quiet = stmts_simple fs quiet
     branches_simple (a_branch e fs branches) quiet =
         let condition = is_quiet_expression types variables e in
-        others (condition && are_quiet types variables fs) (are_quiet_branches types variables branches) (are_simple known may_free fs)
-        (are_simple_branches known may_free branches)
+        others (condition && are_quiet types variables fs) (are_quiet_branches types variables branches) (are_simple known fs)
+        (are_simple_branches known branches)
         (λ both. stmts_simple fs (second_of_both condition (are_quiet types variables fs) both))
         (branches_simple branches) quiet
 
-    handlers_simple : (hs : HandlersForm) → are_quiet_handlers types variables hs ≡ true → are_simple_handlers known may_free hs ≡ true
+    handlers_simple : (hs : HandlersForm) → are_quiet_handlers types variables hs ≡ true → are_simple_handlers known hs ≡ true
     handlers_simple no_handlers quiet = refl
     handlers_simple (a_handler choices fs hs) quiet =
-        others (are_quiet types variables fs) (are_quiet_handlers types variables hs) (are_simple known may_free fs) (are_simple_handlers known may_free hs)
+        others (are_quiet types variables fs) (are_quiet_handlers types variables hs) (are_simple known fs) (are_simple_handlers known hs)
         (stmts_simple fs) (handlers_simple hs) quiet
 
 -- What holds an Integer or a Boolean is no record.
@@ -96,15 +96,15 @@ one_value_each (x ∷ xs) h =
     (one_value x.kind) (one_value_each xs) h
 
 -- No exception comes out of a quiet body: of a simple one this is not asked.
-pub simple_body : (types known : List TypeForm) (may_free : Bool) (b : BodyForm) → is_quiet_body types b ≡ true → is_simple_body known may_free b ≡ true
-simple_body types known may_free b quiet =
-    others (elementary && declarations && statements) handlers (plain && are_simple_declarations known b.declarations && are_simple known may_free b.statements)
-    (are_simple_handlers known may_free b.handlers)
-    (others (elementary && declarations) statements (plain && are_simple_declarations known b.declarations) (are_simple known may_free b.statements)
+pub simple_body : (types known : List TypeForm) (b : BodyForm) → is_quiet_body types b ≡ true → is_simple_body known b ≡ true
+simple_body types known b quiet =
+    others (elementary && declarations && statements) handlers (plain && are_simple_declarations known b.declarations && are_simple known b.statements)
+    (are_simple_handlers known b.handlers)
+    (others (elementary && declarations) statements (plain && are_simple_declarations known b.declarations) (are_simple known b.statements)
     (others elementary declarations plain (are_simple_declarations known b.declarations) (one_value_each (drop 1 b.variables))
-    (declarations_simple types known may_free b.variables b.declarations))
-    (stmts_simple types known may_free b.variables b.statements))
-    (handlers_simple types known may_free b.variables b.handlers)
+    (declarations_simple types known b.variables b.declarations))
+    (stmts_simple types known b.variables b.statements))
+    (handlers_simple types known b.variables b.handlers)
     (plain_body types b quiet)
   where
     elementary : Bool

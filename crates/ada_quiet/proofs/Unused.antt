@@ -105,7 +105,7 @@ abbrev adjusted_procedure : ProgramForm → (owns : Bool) → (procedure : Proce
 adjusted_procedure p owns procedure o =
     (adjusts_nothing p && is_frugal_operation p (Some procedure))
     || (if owns && is_some o
-    then may_track p && is_simple_procedure p.types true o
+    then may_track p && is_simple_procedure p.types o
     else is_quiet_procedure p.types o || (may_adjust_frugally p && is_frugal_operation p (Some procedure)))
 
 adjusted_body : (p : ProgramForm) (owns : Bool) (procedure : ProcedureNo) (b : BodyForm)

@@ -38,7 +38,7 @@ abbrev pub adjusts_in_use : ProgramForm → (owns : Bool) → (procedure : Proce
 adjusts_in_use p owns procedure b =
     (adjusts_nothing p && is_frugal_operation p (Some procedure))
     || (if owns
-    then may_track p && is_simple_body p.types true b
+    then may_track p && is_simple_body p.types b
     else is_quiet_body p.types b || (may_adjust_frugally p && is_frugal_operation p (Some procedure)))
 
 -- A body finalizes in use: it is quiet, or frugal, where it may be.
@@ -97,7 +97,7 @@ abbrev pub adjusts : ProgramForm → (nothing freely tracks owns : Bool) → Opt
 adjusts p nothing freely tracks owns adjust =
     (nothing && is_frugal_operation p adjust)
     || (if owns && is_some (operation_body p adjust)
-    then tracks && is_simple_operation p true adjust
+    then tracks && is_simple_operation p adjust
     else is_quiet_operation p adjust || (freely && is_frugal_operation p adjust))
 
 -- What overrides Finalize is quiet, or frugal, where it may be or not.

@@ -89,7 +89,7 @@ may_adjust_frugally p = may_be_frugal p && tracks_beside_none p
 abbrev pub uses_called_adjust : ProgramForm → (owns : Bool) → Option ProcedureNo → Bool
 uses_called_adjust p owns adjust =
     if owns && is_some (operation_body p adjust)
-    then may_track p && is_simple_operation p true adjust
+    then may_track p && is_simple_operation p adjust
     else is_quiet_operation p adjust || (may_adjust_frugally p && is_frugal_operation p adjust)
 
 -- So Adjust is in use; and where none is called, a frugal one is, too.

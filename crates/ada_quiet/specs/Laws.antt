@@ -16,10 +16,10 @@ use Rattle.ada_quiet.specs.InUse.{operations_are_in_use}
 abbrev pub PlainIsFrugal : Type 0
 PlainIsFrugal = (thrift : Thrift) (types : List TypeForm) (b : BodyForm) → is_plain_body types b ≡ true → is_frugal_body thrift b ≡ true
 
--- A quiet body is simple, whether objects may be freed or not: it calls nothing, copies no record, and frees nothing.
+-- A quiet body is simple: it calls nothing, copies no record, and frees nothing.
 abbrev pub QuietIsSimple : Type 0
 QuietIsSimple =
-    (types others : List TypeForm) (may_free : Bool) (b : BodyForm) → is_quiet_body types b ≡ true → is_simple_body others may_free b ≡ true
+    (types others : List TypeForm) (b : BodyForm) → is_quiet_body types b ≡ true → is_simple_body others b ≡ true
 
 -- Where all operations are quiet, all are in use.
 abbrev pub QuietIsInUse : Type 0

@@ -1,5 +1,5 @@
--- Bodies of an Adjust whose components of access types are tracked (7.6): they allocate objects without controlled parts, and free some where they may, move
--- and follow, call nothing, assign no record with controlled parts, and declare variables alone. Flow judges such a body as one that has a variable for each of
+-- Bodies of an Adjust whose components of access types are tracked (7.6): they allocate and free objects without controlled parts, move and follow, call nothing,
+-- assign no record with controlled parts, and declare variables alone. Flow judges such a body as one that has a variable for each of
 -- those components.
 
 use Rattle.std.specs.Prelude.{Bool, true, false, ◌&&◌, not, List, drop, Option, Some, None, is_some}
@@ -32,17 +32,16 @@ is_simple_declaration types (declares_record x t initial) = false
 abbrev pub are_simple_declarations : List TypeForm → List DeclarationForm → Bool
 are_simple_declarations types ds = list_all (is_simple_declaration types) ds
 
--- Where the bodies may free objects, or where not.
-module _ (types : List TypeForm) (may_free : Bool) where
+module _ (types : List TypeForm) where
   abbrev mutual
-    -- A statement assigns to no record with controlled parts as a whole (5.2, 7.6), allocates and frees no object with such parts (4.8, 13.11.2), frees none
-    -- where it may not, and calls nothing (6.4).
+    -- A statement assigns to no record with controlled parts as a whole (5.2, 7.6), allocates and frees no object with such parts (4.8, 13.11.2), and calls
+    -- nothing (6.4).
     pub is_simple_stmt : StmtForm → Bool
     is_simple_stmt skips = true
     is_simple_stmt (assigns target right) = is_simple_right types right
     is_simple_stmt (assigns_record target items) =
         not (is_some (finalization_of types target.record_type)) && list_all (is_bare_item types) items
-    is_simple_stmt (frees access path) = may_free && has_bare_objects types access
+    is_simple_stmt (frees access path) = has_bare_objects types access
     is_simple_stmt (gets target) = true
     is_simple_stmt (writes e) = true
     is_simple_stmt (writes_text text) = true
@@ -78,17 +77,17 @@ holds_one_value (variable.Access access) = true
 holds_one_value (variable.Record object) = false
 
 -- All of a body is so, and none of its variables is a record but the first one, the formal parameter.
-abbrev pub is_simple_body : List TypeForm → (may_free : Bool) → BodyForm → Bool
-is_simple_body types may_free b =
+abbrev pub is_simple_body : List TypeForm → BodyForm → Bool
+is_simple_body types b =
     list_all (λ x. holds_one_value x.kind) (drop 1 b.variables) && are_simple_declarations types b.declarations
-    && are_simple types may_free b.statements && are_simple_handlers types may_free b.handlers
+    && are_simple types b.statements && are_simple_handlers types b.handlers
 
 -- A procedure that was found has such a body.
-abbrev pub is_simple_procedure : List TypeForm → (may_free : Bool) → Option BodyForm → Bool
-is_simple_procedure types may_free None = true
-is_simple_procedure types may_free (Some b) = is_simple_body types may_free b
+abbrev pub is_simple_procedure : List TypeForm → Option BodyForm → Bool
+is_simple_procedure types None = true
+is_simple_procedure types (Some b) = is_simple_body types b
 
 -- So has what overrides an operation, if one is overridden (7.6).
-abbrev pub is_simple_operation : ProgramForm → (may_free : Bool) → Option ProcedureNo → Bool
-is_simple_operation p may_free None = true
-is_simple_operation p may_free (Some procedure) = is_simple_procedure p.types may_free (slice_get p.bodies procedure.0)
+abbrev pub is_simple_operation : ProgramForm → Option ProcedureNo → Bool
+is_simple_operation p None = true
+is_simple_operation p (Some procedure) = is_simple_procedure p.types (slice_get p.bodies procedure.0)

@@ -13,7 +13,7 @@ pub fn plain_is_frugal()
     ensures { PlainIsFrugal }
 {}
 
-/// A quiet body is simple, whether objects may be freed or not: it calls nothing, copies no record, and frees nothing.
+/// A quiet body is simple: it calls nothing, copies no record, and frees nothing.
 pub fn quiet_is_simple()
     ensures { QuietIsSimple }
 {}

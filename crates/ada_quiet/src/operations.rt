@@ -60,13 +60,9 @@ pub(crate) fn is_frugal_operation(frugal: &[bool], operation: Option<ProcedureNo
     }
 }
 
-/// Whether it has a simple one, where objects may be freed or not.
-pub(crate) fn is_simple_operation(
-    program: &Program,
-    may_free: bool,
-    operation: Option<ProcedureNo>,
-) -> bool
-    ensures { result ≡ simple.is_simple_operation (program_form program.now) may_free operation }
+/// Whether it has a simple one.
+pub(crate) fn is_simple_operation(program: &Program, operation: Option<ProcedureNo>) -> bool
+    ensures { result ≡ simple.is_simple_operation (program_form program.now) operation }
 {
     let Some(number) = operation else {
         return true;
@@ -74,7 +70,7 @@ pub(crate) fn is_simple_operation(
     let Some(procedure) = program.procedures.get(number.0) else {
         return true;
     };
-    is_simple_body(&program.types, may_free, procedure)
+    is_simple_body(&program.types, procedure)
 }
 
 /// Whether all those have a quiet one that override the operations of a type.

@@ -1,6 +1,5 @@
-//! Declarations, statements and bodies, where they are simple: they allocate objects without controlled parts (7.6, 4.8), and free some
-//! where they may (13.11.2), move and follow, call nothing (6.4), assign no record with controlled parts (5.2), and declare no more than
-//! variables.
+//! Declarations, statements and bodies, where they are simple: they allocate and free objects without controlled parts (7.6, 4.8,
+//! 13.11.2), move and follow, call nothing (6.4), assign no record with controlled parts (5.2), and declare no more than variables.
 
 ghost use Rattle.std.specs.Prelude.{◌≡◌, ◌&&◌, drop, map};
 ghost use Rattle.std.specs.List.{list_all};
@@ -64,11 +63,11 @@ fn are_simple_declarations(types: &[TypeDefinition], declarations: &[Declaration
 }
 
 /// Whether a statement assigns to no record with controlled parts as a whole (5.2, 7.6), allocates and frees no object with such parts
-/// (4.8, 13.11.2), and calls nothing (6.4), where objects may be freed; where they may not, whether it also frees none.
+/// (4.8, 13.11.2), and calls nothing (6.4).
 #[cycle(statements)]
 #[tactic(auto, using(std::proofs::lemmas::Grind::common_steps, ada_program::specs::Form::statement_rules))]
-fn is_simple_stmt(types: &[TypeDefinition], may_free: bool, statement: &Stmt) -> bool
-    ensures { result ≡ rules.is_simple_stmt (types_in types.now) may_free (stmt_form statement.now) }
+fn is_simple_stmt(types: &[TypeDefinition], statement: &Stmt) -> bool
+    ensures { result ≡ rules.is_simple_stmt (types_in types.now) (stmt_form statement.now) }
 {
     match statement {
         Stmt::Null
@@ -83,70 +82,68 @@ fn is_simple_stmt(types: &[TypeDefinition], may_free: bool, statement: &Stmt) ->
             finalization_of(types, target.record.0).is_none() && are_bare_items(types, items)
         }
         Stmt::Assign { target: _, value } => is_simple_right(types, value),
-        Stmt::Free { access, path: _ } => may_free && has_bare_objects(types, *access),
+        Stmt::Free { access, path: _ } => has_bare_objects(types, *access),
         Stmt::If {
             branches,
             otherwise,
-        } => {
-            are_simple_branches(types, may_free, branches) && are_simple(types, may_free, otherwise)
-        }
+        } => { are_simple_branches(types, branches) && are_simple(types, otherwise) }
         Stmt::Loop {
             condition: _,
             statements,
             end: _,
-        } => are_simple(types, may_free, statements),
+        } => are_simple(types, statements),
         Stmt::For {
             parameter: _,
             first: _,
             last: _,
             statements,
             end: _,
-        } => are_simple(types, may_free, statements),
+        } => are_simple(types, statements),
         Stmt::Block {
             declarations,
             statements,
             handlers,
         } => are_simple_declarations(types, declarations)
-            && are_simple(types, may_free, statements)
-            && are_simple_handlers(types, may_free, handlers),
+            && are_simple(types, statements)
+            && are_simple_handlers(types, handlers),
     }
 }
 
-/// Whether statements are simple, where objects may be freed or not.
+/// Whether statements are simple.
 #[cycle(statements)]
-fn are_simple(types: &[TypeDefinition], may_free: bool, statements: &[Stmt]) -> bool
-    ensures { result ≡ rules.are_simple (types_in types.now) may_free (stmts_form statements.now) }
+fn are_simple(types: &[TypeDefinition], statements: &[Stmt]) -> bool
+    ensures { result ≡ rules.are_simple (types_in types.now) (stmts_form statements.now) }
 {
     'statements: for statement in statements {
-        if !is_simple_stmt(types, may_free, statement) {
+        if !is_simple_stmt(types, statement) {
             return false;
         }
     }
     true
 }
 
-/// Whether branches are (5.3), where objects may be freed or not.
+/// Whether branches are (5.3).
 #[cycle(statements)]
-fn are_simple_branches(types: &[TypeDefinition], may_free: bool, branches: &[Branch]) -> bool
+fn are_simple_branches(types: &[TypeDefinition], branches: &[Branch]) -> bool
     ensures { (others : StmtsForm) →
-        rules.are_simple_branches (types_in types.now) may_free (branches_form branches.now others)
-        ≡ (result && rules.are_simple (types_in types.now) may_free others) }
+        rules.are_simple_branches (types_in types.now) (branches_form branches.now others)
+        ≡ (result && rules.are_simple (types_in types.now) others) }
 {
     'branches: for branch in branches {
-        if !are_simple(types, may_free, &branch.statements) {
+        if !are_simple(types, &branch.statements) {
             return false;
         }
     }
     true
 }
 
-/// Whether handlers are (11.2), where objects may be freed or not.
+/// Whether handlers are (11.2).
 #[cycle(statements)]
-fn are_simple_handlers(types: &[TypeDefinition], may_free: bool, handlers: &[Handler]) -> bool
-    ensures { result ≡ rules.are_simple_handlers (types_in types.now) may_free (handlers_form handlers.now) }
+fn are_simple_handlers(types: &[TypeDefinition], handlers: &[Handler]) -> bool
+    ensures { result ≡ rules.are_simple_handlers (types_in types.now) (handlers_form handlers.now) }
 {
     'handlers: for handler in handlers {
-        if !are_simple(types, may_free, &handler.statements) {
+        if !are_simple(types, &handler.statements) {
             return false;
         }
     }
@@ -185,18 +182,13 @@ fn others_hold_one_value(variables: &[Variable]) -> bool
     }
 }
 
-/// Whether a body is simple: it allocates objects without controlled parts, and frees some where objects may be freed, moves and
-/// follows; it calls nothing, assigns no record with controlled parts, and declares variables alone, none of them a record. An exception
+/// Whether a body is simple: it allocates and frees objects without controlled parts, moves and follows; it calls nothing, assigns no record with controlled parts, and declares variables alone, none of them a record. An exception
 /// may come out of it. Linear in the body.
-pub(crate) fn is_simple_body(
-    types: &[TypeDefinition],
-    may_free: bool,
-    procedure: &Procedure,
-) -> bool
-    ensures { result ≡ rules.is_simple_body (types_in types.now) may_free (body_form procedure.now) }
+pub(crate) fn is_simple_body(types: &[TypeDefinition], procedure: &Procedure) -> bool
+    ensures { result ≡ rules.is_simple_body (types_in types.now) (body_form procedure.now) }
 {
     others_hold_one_value(&procedure.variables)
         && are_simple_declarations(types, &procedure.declarations)
-        && are_simple(types, may_free, &procedure.statements)
-        && are_simple_handlers(types, may_free, &procedure.handlers)
+        && are_simple(types, &procedure.statements)
+        && are_simple_handlers(types, &procedure.handlers)
 }

@@ -99,7 +99,7 @@ pub(crate) fn uses_adjust(
     if !(owns && is_overridden(program, operation)) {
         return is_quiet_or_frugal(alloc, program, procedures, may.freely, operation);
     }
-    Ok(may.tracks && is_simple_operation(program, true, operation))
+    Ok(may.tracks && is_simple_operation(program, operation))
 }
 
 /// Whether what overrides an operation is quiet, or frugal, where it may be.

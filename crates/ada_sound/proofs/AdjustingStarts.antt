@@ -73,7 +73,7 @@ use Rattle.ada_sound.proofs.PartsApart.{PartWithin, walked_sizes}
 use Rattle.ada_sound.proofs.QuietOperations.{MayTrack}
 use Rattle.ada_sound.proofs.Returns.{same_types}
 use Rattle.ada_sound.proofs.ShunsAround.{shuns_around}
-use Rattle.ada_sound.proofs.SimpleBodies.{simple_thrifty, simple_with}
+use Rattle.ada_sound.proofs.SimpleBodies.{simple_thrifty}
 use Rattle.ada_sound.proofs.Sparing.{Sparing, bare_apart, begins_sparing, is_around}
 use Rattle.ada_sound.proofs.Starts.{Obeys}
 use Rattle.ada_sound.proofs.Touching.{resting}
@@ -195,8 +195,8 @@ module _
     may : may_be_frugal p ≡ true
     may = frugal_too p tracks.0
 
-    simple_so : is_simple_body p.types true c.b ≡ true
-    simple_so = simple_with p.types true c.b tracks.1
+    simple_so : is_simple_body p.types c.b ≡ true
+    simple_so = tracks.1
 
     thrifty : is_thrifty_body (simple_allowance p.types) c.b ≡ true
     thrifty = simple_thrifty (simple_allowance p.types) c.b simple_so
@@ -262,7 +262,7 @@ module _
     shuns : body_shuns p.types (is_around x.cell.access) (bare_apart program) c.b ≡ true
     shuns =
         shuns_around program well spares_adjusted spares_own x.cell.access c.of c.part c.number (called_operable program well x.cell.access r c.of c.part c.tasks left)
-        (adjust_called c.by (operations_of program.types.items c.of) c.number c.copies c.called) c.b c.there true simple_so
+        (adjust_called c.by (operations_of program.types.items c.of) c.number c.copies c.called) c.b c.there simple_so
 
     -- So it looks at the object by its formal parameter alone in the real state.
     looks_elsewhere : Sparing program o x.cell.access behind s.masters real
@@ -361,7 +361,7 @@ module _
       original_shunned : body_shuns p.types (is_around around) (bare_apart program) c.b ≡ true
       original_shunned =
           shuns_around program well spares_adjusted spares_own around c.of (origin.part + own_lies.count) c.number original_operable
-          (adjust_called c.by (operations_of program.types.items c.of) c.number c.copies c.called) c.b c.there true simple_so
+          (adjust_called c.by (operations_of program.types.items c.of) c.number c.copies c.called) c.b c.there simple_so
 
       original_ghost : (accessed : Bool) → is_access p.types around ≡ accessed → (q : Id) → is_this origin.source q ≡ true
           → IsGhost p.types (is_around around) (not accessed && is_this origin.source q) (object_at s.heap q)

@@ -20,7 +20,7 @@ use Rattle.ada_quiet.specs.InUse.{adjusts_nothing, may_adjust_frugally, may_be_f
 use Rattle.ada_quiet.specs.Quiet.{has_access, operation_body, is_plain_body, is_plain_operation, is_quiet_body, is_quiet_operation}
 use Rattle.ada_quiet.specs.Simple.{is_simple_body, is_simple_operation}
 use Rattle.ada_sound.proofs.FrugalBodies.{frugal_parts}
-use Rattle.ada_sound.proofs.SimpleBodies.{simple_frugal, simple_with}
+use Rattle.ada_sound.proofs.SimpleBodies.{simple_frugal}
 
 -- A path into a record variable, on which no access value is followed, lies at hand, if it may be assigned to in that variable,
 at_hand : (within : ℕ → Bool) (target : RecordPathForm) → not (record_path_raises target) ≡ true
@@ -168,11 +168,11 @@ module _ (p : ProgramForm) where
       (λ b quiet. operation_inside b (frugal_body (thrift_of p) p.types b (and_parts (is_plain_body p.types b) _ quiet).0)) procedure
       (λ b at. rw at at is)
 
-  simple_inside : (may_free : Bool) (o : Option ProcedureNo) → is_simple_operation p may_free o ≡ true → operation_assigns_inside p inside_formals frugally_called o ≡ true
-  simple_inside may_free None is = refl
-  simple_inside may_free (Some procedure) is =
-      body_of (λ b. is_simple_body p.types may_free b ≡ true)
-      (λ b simple. operation_inside b (simple_frugal (thrift_of p) b (simple_with p.types may_free b simple))) procedure
+  simple_inside : (o : Option ProcedureNo) → is_simple_operation p o ≡ true → operation_assigns_inside p inside_formals frugally_called o ≡ true
+  simple_inside None is = refl
+  simple_inside (Some procedure) is =
+      body_of (λ b. is_simple_body p.types b ≡ true)
+      (λ b simple. operation_inside b (simple_frugal (thrift_of p) b simple)) procedure
       (λ b at. rw at at is)
 
   frugal_inside : (o : Option ProcedureNo) → is_frugal_operation p o ≡ true → operation_assigns_inside p inside_formals frugally_called o ≡ true
@@ -199,9 +199,9 @@ module _ (p : ProgramForm) where
   freely_inside o (inr frugal) = frugal_inside o (and_parts (may_adjust_frugally p) (is_frugal_operation p o) frugal).1
 
   called_inside : (o : Option ProcedureNo) (owns : Bool)
-      → (if owns then may_track p && is_simple_operation p true o else (is_quiet_operation p o || (may_adjust_frugally p && is_frugal_operation p o))) ≡ true
+      → (if owns then may_track p && is_simple_operation p o else (is_quiet_operation p o || (may_adjust_frugally p && is_frugal_operation p o))) ≡ true
       → operation_assigns_inside p inside_formals frugally_called o ≡ true
-  called_inside o true uses = simple_inside true o (and_parts (may_track p) (is_simple_operation p true o) uses).1
+  called_inside o true uses = simple_inside o (and_parts (may_track p) (is_simple_operation p o) uses).1
   called_inside o false uses = freely_inside o (or_cases (is_quiet_operation p o) (may_adjust_frugally p && is_frugal_operation p o) uses)
 
   adjust_inside : (owns : Bool) (o : Option ProcedureNo) → uses_adjust p owns o ≡ true → operation_assigns_inside p inside_formals frugally_called o ≡ true

@@ -183,7 +183,7 @@ module _ (types : List TypeForm) (tracks : Tracks) (own : List VariableForm) (tr
   -- Statements (5.1).
   module _ (texts exceptions : List (List ℕ)) (callable : List Profile) where
     mutual
-      statement_confined : (inside : Bool) (f : StmtForm) → statement_fits types own texts exceptions callable inside f ≡ true → is_simple_stmt types true f ≡ true → StatementIsConfined tracks.first reaches f
+      statement_confined : (inside : Bool) (f : StmtForm) → statement_fits types own texts exceptions callable inside f ≡ true → is_simple_stmt types f ≡ true → StatementIsConfined tracks.first reaches f
       statement_confined inside skips fit simple = tt
       statement_confined inside (assigns target right) fit simple =
           let fits = (apart _ _ fit).0 in
@@ -221,14 +221,14 @@ module _ (types : List TypeForm) (tracks : Tracks) (own : List VariableForm) (tr
           let firsts = apart _ _ simples.0 in
           (declarations_confined ds fronts.0 firsts.0, statements_confined inside fs fronts.1 firsts.1, handlers_confined inside hs fits.1 simples.1)
 
-      statements_confined : (inside : Bool) (fs : StmtsForm) → stmts_fit types own texts exceptions callable inside fs ≡ true → are_simple types true fs ≡ true → StatementsAreConfined tracks.first reaches fs
+      statements_confined : (inside : Bool) (fs : StmtsForm) → stmts_fit types own texts exceptions callable inside fs ≡ true → are_simple types fs ≡ true → StatementsAreConfined tracks.first reaches fs
       statements_confined inside no_stmts fit simple = tt
       statements_confined inside (a_stmt f fs) fit simple =
           let fits = apart _ _ fit in
           let simples = apart _ _ simple in
           (statement_confined inside f fits.0 simples.0, statements_confined inside fs fits.1 simples.1)
 
-      branches_confined : (inside : Bool) (branches : BranchesForm) → branches_fit types own texts exceptions callable inside branches ≡ true → are_simple_branches types true branches ≡ true → BranchesAreConfined tracks.first reaches branches
+      branches_confined : (inside : Bool) (branches : BranchesForm) → branches_fit types own texts exceptions callable inside branches ≡ true → are_simple_branches types branches ≡ true → BranchesAreConfined tracks.first reaches branches
       branches_confined inside (otherwise fs) fit simple = statements_confined inside fs fit simple
       branches_confined inside (a_branch e fs branches) fit simple =
           let fits = apart _ _ fit in
@@ -236,7 +236,7 @@ module _ (types : List TypeForm) (tracks : Tracks) (own : List VariableForm) (tr
           let simples = apart _ _ simple in
           (typed_confined Boolean e fronts.0, statements_confined inside fs fronts.1 simples.0, branches_confined inside branches fits.1 simples.1)
 
-      handlers_confined : (inside : Bool) (hs : HandlersForm) → handlers_fit types own texts exceptions callable inside hs ≡ true → are_simple_handlers types true hs ≡ true → HandlersAreConfined tracks.first reaches hs
+      handlers_confined : (inside : Bool) (hs : HandlersForm) → handlers_fit types own texts exceptions callable inside hs ≡ true → are_simple_handlers types hs ≡ true → HandlersAreConfined tracks.first reaches hs
       handlers_confined inside no_handlers fit simple = tt
       handlers_confined inside (a_handler choices fs hs) fit simple =
           let fits = apart _ _ fit in
@@ -253,7 +253,7 @@ pub record FormsAreConfined (types : List TypeForm) (tracks : Tracks) (object : 
 -- In a well-formed program those of a simple body are so, if it tracks components of its formal parameter.
 pub confined_body :
     (p : ProgramForm) → IsWellFormed p → (number : ℕ) (b : BodyForm) → slice_get p.bodies number ≡ Some b → (tracks : Tracks)
-    → (tracking : TracksComponents p.types tracks b.variables) → is_simple_body p.types true b ≡ true → FormsAreConfined p.types tracks tracking.object b
+    → (tracking : TracksComponents p.types tracks b.variables) → is_simple_body p.types b ≡ true → FormsAreConfined p.types tracks tracking.object b
 confined_body p well number b there tracks tracking is =
     let own = seen_by number b p in
     let fit : SeenFits own = subst SeenFits (seen_as p number b there) (seen_fits p well (Some number)) in

@@ -244,7 +244,7 @@ module _ (types : List TypeForm) (tracks : Tracks) (own : List VariableForm) (tr
   -- Statements (5.1).
   module _ (texts exceptions : List (List ℕ)) (callable : List Profile) where
     mutual
-      statement_orderly : (inside : Bool) (f : StmtForm) → statement_fits types own texts exceptions callable inside f ≡ true → is_simple_stmt types true f ≡ true → StatementIsOrderly tracks f
+      statement_orderly : (inside : Bool) (f : StmtForm) → statement_fits types own texts exceptions callable inside f ≡ true → is_simple_stmt types f ≡ true → StatementIsOrderly tracks f
       statement_orderly inside skips fit simple = tt
       statement_orderly inside (assigns target right) fit simple =
           let fits = (apart _ _ fit).0 in
@@ -284,14 +284,14 @@ module _ (types : List TypeForm) (tracks : Tracks) (own : List VariableForm) (tr
           let firsts = apart _ _ simples.0 in
           (declarations_orderly ds fronts.0 firsts.0, statements_orderly inside fs fronts.1 firsts.1, handlers_orderly inside hs fits.1 simples.1)
 
-      statements_orderly : (inside : Bool) (fs : StmtsForm) → stmts_fit types own texts exceptions callable inside fs ≡ true → are_simple types true fs ≡ true → StatementsAreOrderly tracks fs
+      statements_orderly : (inside : Bool) (fs : StmtsForm) → stmts_fit types own texts exceptions callable inside fs ≡ true → are_simple types fs ≡ true → StatementsAreOrderly tracks fs
       statements_orderly inside no_stmts fit simple = tt
       statements_orderly inside (a_stmt f fs) fit simple =
           let fits = apart _ _ fit in
           let simples = apart _ _ simple in
           (statement_orderly inside f fits.0 simples.0, statements_orderly inside fs fits.1 simples.1)
 
-      branches_orderly : (inside : Bool) (branches : BranchesForm) → branches_fit types own texts exceptions callable inside branches ≡ true → are_simple_branches types true branches ≡ true → BranchesAreOrderly tracks branches
+      branches_orderly : (inside : Bool) (branches : BranchesForm) → branches_fit types own texts exceptions callable inside branches ≡ true → are_simple_branches types branches ≡ true → BranchesAreOrderly tracks branches
       branches_orderly inside (otherwise fs) fit simple = statements_orderly inside fs fit simple
       branches_orderly inside (a_branch e fs branches) fit simple =
           let fits = apart _ _ fit in
@@ -299,7 +299,7 @@ module _ (types : List TypeForm) (tracks : Tracks) (own : List VariableForm) (tr
           let simples = apart _ _ simple in
           (typed_orderly Boolean e fronts.0, statements_orderly inside fs fronts.1 simples.0, branches_orderly inside branches fits.1 simples.1)
 
-      handlers_orderly : (inside : Bool) (hs : HandlersForm) → handlers_fit types own texts exceptions callable inside hs ≡ true → are_simple_handlers types true hs ≡ true → HandlersAreOrderly tracks hs
+      handlers_orderly : (inside : Bool) (hs : HandlersForm) → handlers_fit types own texts exceptions callable inside hs ≡ true → are_simple_handlers types hs ≡ true → HandlersAreOrderly tracks hs
       handlers_orderly inside no_handlers fit simple = tt
       handlers_orderly inside (a_handler choices fs hs) fit simple =
           let fits = apart _ _ fit in
@@ -310,7 +310,7 @@ module _ (types : List TypeForm) (tracks : Tracks) (own : List VariableForm) (tr
 -- In a well-formed program a simple body is orderly, if it tracks components of its formal parameter.
 pub orderly_body :
     (p : ProgramForm) → IsWellFormed p → (number : ℕ) (b : BodyForm) → slice_get p.bodies number ≡ Some b → (tracks : Tracks) → TracksComponents p.types tracks b.variables
-    → is_simple_body p.types true b ≡ true → BodyIsOrderly tracks b
+    → is_simple_body p.types b ≡ true → BodyIsOrderly tracks b
 orderly_body p well number b there tracks tracking is =
     let own = seen_by number b p in
     let fit : SeenFits own = subst SeenFits (seen_as p number b there) (seen_fits p well (Some number)) in
@@ -322,5 +322,5 @@ orderly_body p well number b there tracks tracking is =
     }
 
 -- Each variable of it but the formal parameter holds an Integer, a Boolean, or an access value.
-pub lone_body : (types : List TypeForm) (b : BodyForm) → is_simple_body types true b ≡ true → list_all (λ y. holds_one_value y.kind) (drop 1 b.variables) ≡ true
+pub lone_body : (types : List TypeForm) (b : BodyForm) → is_simple_body types b ≡ true → list_all (λ y. holds_one_value y.kind) (drop 1 b.variables) ≡ true
 lone_body types b is = (simple_parts types b is).variables

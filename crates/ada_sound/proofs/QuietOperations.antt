@@ -40,7 +40,7 @@ use Rattle.ada_quiet.proofs.FrugalAt.{operation_at}
 use Rattle.ada_quiet.proofs.QuietFrugal.{frugal_body}
 use Rattle.ada_sound.proofs.OnlyParts.{passed_at}
 use Rattle.ada_sound.proofs.OperationNests.{operation_nests}
-use Rattle.ada_sound.proofs.SimpleBodies.{simple_nests, simple_with}
+use Rattle.ada_sound.proofs.SimpleBodies.{simple_nests}
 use Rattle.ada_sound.proofs.Operating.{IsCalled, PlainBody}
 
 -- Quiet statements create nothing but Integers and Booleans.
@@ -143,7 +143,7 @@ module _ (p : ProgramForm) where
   IsFrugal number = (may_be_frugal p ≡ true) × (slice_index_or (frugal_operations p) number false ≡ true)
 
   abbrev pub IsSimple : ℕ → Type 0
-  IsSimple number = (may_track p ≡ true) × (is_simple_procedure p.types true (slice_get p.bodies number) ≡ true)
+  IsSimple number = (may_track p ≡ true) × (is_simple_procedure p.types (slice_get p.bodies number) ≡ true)
 
   -- A procedure is frugal, and no Adjust tracks beside one that does not.
   abbrev pub IsFreelyFrugal : ℕ → Type 0
@@ -194,8 +194,8 @@ module _ (p : ProgramForm) where
           inr ((both.0, frugal_one o number both.1 is), not_quiet o number quiet is)
 
   simple_one :
-      (o : Option ProcedureNo) (number : ℕ) → is_simple_operation p true o ≡ true → procedure_number o ≡ Some number
-      → is_simple_procedure p.types true (slice_get p.bodies number) ≡ true
+      (o : Option ProcedureNo) (number : ℕ) → is_simple_operation p o ≡ true → procedure_number o ≡ Some number
+      → is_simple_procedure p.types (slice_get p.bodies number) ≡ true
   simple_one None number simple is = absurd (cc is)
   simple_one (Some procedure) number simple is = let same : procedure.0 ≡ number = cc is in rw same at simple
 
@@ -237,11 +237,11 @@ module _ (p : ProgramForm) where
           inr (inl ((may.1, (may.0, frugal_one o number both.1 is), not_quiet o number quiet is), owns_none owns o number none both.1 is))
 
       by : (tracks : Bool) → (owns && is_some (operation_body p o)) ≡ tracks
-          → (if tracks then may_track p && is_simple_operation p true o else (is_quiet_operation p o || (may_adjust_frugally p && is_frugal_operation p o))) ≡ true
+          → (if tracks then may_track p && is_simple_operation p o else (is_quiet_operation p o || (may_adjust_frugally p && is_frugal_operation p o))) ≡ true
           → IsQuiet number ⊎ ((IsFreelyFrugal number × (owns ≡ false)) ⊎ (IsSimple number × (owns ≡ true)))
       by false so uses' = freely so (is_quiet_operation p o) refl uses'
       by true so uses' =
-          let both = apart (may_track p) (is_simple_operation p true o) uses' in
+          let both = apart (may_track p) (is_simple_operation p o) uses' in
           inr (inr ((both.0, simple_one o number both.1 is), (apart owns (is_some (operation_body p o)) so).0))
 
   -- Whether it may be called or not.
@@ -408,7 +408,7 @@ module _ (p : ProgramForm) where
       by (inr (inl freely)) = operation_nests p well procedure.0 freely.0.1.1
       by (inr (inr both)) =
           let b = there_one t (Some procedure) procedure.0 right refl in
-          let simple = simple_with p.types true b.0 (rw (b.1) at both.0.1) in
+          let simple : is_simple_body p.types b.0 ≡ true = rw (b.1) at both.0.1 in
           λ around all. nests_there procedure.0 b.0 b.1 around (λ callees. simple_nests p.types (kinds_open p well) callees b.0 around all simple)
 
       either : ((adjusts_nothing p && is_frugal_operation p (Some procedure)) ≡ true) ⊎ (uses_called_adjust p owns (Some procedure) ≡ true) → Nests (Some procedure)
@@ -460,7 +460,7 @@ AdjustsCopy (ends cause) = ⊥
 
 -- An Adjust may track components of its formal parameter: it is simple.
 abbrev pub MayTrack : ProgramForm → BodyForm → Type 0
-MayTrack p b = (may_track p ≡ true) × (is_simple_body p.types true b ≡ true)
+MayTrack p b = (may_track p ≡ true) × (is_simple_body p.types b ≡ true)
 
 -- A type of this number, among the controlled ones, declares a component of an access type directly, and the procedure overrides its Adjust (3.10, 7.6).
 pub record AdjustsOwn (types : List TypeForm) (of number : ℕ) : Type 0 where

@@ -62,7 +62,7 @@ module _ (types : List TypeForm) where
       bare_named (slice_get types own) one.0 one.2 ∙ sym (bare_named (slice_get types access) one.0 one.1) ∙ bare
 
 -- Simple bodies are of the shape of bodies that shun types: they call nothing, and allocate and free no object with controlled parts.
-module _ (program : Program) (variables : List VariableForm) (texts exceptions : List (List ℕ)) (callable : List Profile) (free : Bool) where
+module _ (program : Program) (variables : List VariableForm) (texts exceptions : List (List ℕ)) (callable : List Profile) where
   abbrev types : List TypeForm
   types = (program_form program).types
 
@@ -104,17 +104,17 @@ module _ (program : Program) (variables : List VariableForm) (texts exceptions :
   -- A block, or a body, is so, where its statements and its handlers are.
   master_shaped :
       (inside : Bool) (ds : List DeclarationForm) (fs : StmtsForm) (hs : HandlersForm)
-      → (stmts_fit types variables texts exceptions callable inside fs ≡ true → are_simple types free fs ≡ true
+      → (stmts_fit types variables texts exceptions callable inside fs ≡ true → are_simple types fs ≡ true
       → statements_shun types (λ t. false) apart variables fs ≡ true)
-      → (handlers_fit types variables texts exceptions callable inside hs ≡ true → are_simple_handlers types free hs ≡ true
+      → (handlers_fit types variables texts exceptions callable inside hs ≡ true → are_simple_handlers types hs ≡ true
       → handlers_shun types (λ t. false) apart variables hs ≡ true)
       → stmts_fit types variables texts exceptions callable inside fs ≡ true → handlers_fit types variables texts exceptions callable inside hs ≡ true
-      → (are_simple_declarations types ds && are_simple types free fs && are_simple_handlers types free hs) ≡ true
+      → (are_simple_declarations types ds && are_simple types fs && are_simple_handlers types hs) ≡ true
       → (declarations_shun types (λ t. false) apart variables ds && statements_shun types (λ t. false) apart variables fs
       && handlers_shun types (λ t. false) apart variables hs) ≡ true
   master_shaped inside ds fs hs within behind fits handled is =
-      let outer = and_parts (are_simple_declarations types ds && are_simple types free fs) (are_simple_handlers types free hs) is in
-      let inner = and_parts (are_simple_declarations types ds) (are_simple types free fs) outer.0 in
+      let outer = and_parts (are_simple_declarations types ds && are_simple types fs) (are_simple_handlers types hs) is in
+      let inner = and_parts (are_simple_declarations types ds) (are_simple types fs) outer.0 in
       let declared = declarations_shun types (λ t. false) apart variables ds in
       let stated = statements_shun types (λ t. false) apart variables fs in
       and_from (declared && stated) (handlers_shun types (λ t. false) apart variables hs)
@@ -122,7 +122,7 @@ module _ (program : Program) (variables : List VariableForm) (texts exceptions :
 
   mutual
     statement_shaped :
-        (inside : Bool) (f : StmtForm) → statement_fits types variables texts exceptions callable inside f ≡ true → is_simple_stmt types free f ≡ true
+        (inside : Bool) (f : StmtForm) → statement_fits types variables texts exceptions callable inside f ≡ true → is_simple_stmt types f ≡ true
         → statement_shuns types (λ t. false) apart variables f ≡ true
     statement_shaped inside skips fits is = refl
     statement_shaped inside (assigns target right) fits is =
@@ -142,7 +142,7 @@ module _ (program : Program) (variables : List VariableForm) (texts exceptions :
     statement_shaped inside (frees access path) fits is =
         let kind = path_kind types variables path in
         let freed = (and_parts (is_freed_by types access (path_access types variables path)) (not (names_borrower variables path)) fits).0 in
-        let bare = (and_parts free (has_bare_objects types access) is).1 in
+        let bare = is in
         let leads = path_shuns types (λ t. false) apart variables path in
         and_from (leads && may_follow (λ t. false) kind) (may_end apart kind)
         (and_from leads (may_follow (λ t. false) kind) (path_shaped types apart variables path) (all_may kind)) (end_shaped access kind freed bare)
@@ -174,24 +174,24 @@ module _ (program : Program) (variables : List VariableForm) (texts exceptions :
         (and_parts (declarations_fit types variables ds) fit outer.0).1 outer.1 is
 
     statements_shaped :
-        (inside : Bool) (fs : StmtsForm) → stmts_fit types variables texts exceptions callable inside fs ≡ true → are_simple types free fs ≡ true
+        (inside : Bool) (fs : StmtsForm) → stmts_fit types variables texts exceptions callable inside fs ≡ true → are_simple types fs ≡ true
         → statements_shun types (λ t. false) apart variables fs ≡ true
     statements_shaped inside no_stmts fits is = refl
     statements_shaped inside (a_stmt f fs) fits is =
         let first = statement_fits types variables texts exceptions callable inside f in
         let fit = and_parts first (stmts_fit types variables texts exceptions callable inside fs) fits in
-        let both = and_parts (is_simple_stmt types free f) (are_simple types free fs) is in
+        let both = and_parts (is_simple_stmt types f) (are_simple types fs) is in
         and_from (statement_shuns types (λ t. false) apart variables f) (statements_shun types (λ t. false) apart variables fs)
         (statement_shaped inside f fit.0 both.0) (statements_shaped inside fs fit.1 both.1)
 
     branches_shaped :
         (inside : Bool) (branches : BranchesForm) → branches_fit types variables texts exceptions callable inside branches ≡ true
-        → are_simple_branches types free branches ≡ true → branches_shun types (λ t. false) apart variables branches ≡ true
+        → are_simple_branches types branches ≡ true → branches_shun types (λ t. false) apart variables branches ≡ true
     branches_shaped inside (otherwise fs) fits is = statements_shaped inside fs fits is
     branches_shaped inside (a_branch e fs branches) fits is =
         let first = stmts_fit types variables texts exceptions callable inside fs in
         let fit = and_parts (has_type types variables Boolean e && first) (branches_fit types variables texts exceptions callable inside branches) fits in
-        let both = and_parts (are_simple types free fs) (are_simple_branches types free branches) is in
+        let both = and_parts (are_simple types fs) (are_simple_branches types branches) is in
         let tested = expression_shuns types (λ t. false) apart variables e in
         let within = statements_shun types (λ t. false) apart variables fs in
         and_from (tested && within) (branches_shun types (λ t. false) apart variables branches)
@@ -200,36 +200,36 @@ module _ (program : Program) (variables : List VariableForm) (texts exceptions :
         (branches_shaped inside branches fit.1 both.1)
 
     handlers_shaped :
-        (inside : Bool) (hs : HandlersForm) → handlers_fit types variables texts exceptions callable inside hs ≡ true → are_simple_handlers types free hs ≡ true
+        (inside : Bool) (hs : HandlersForm) → handlers_fit types variables texts exceptions callable inside hs ≡ true → are_simple_handlers types hs ≡ true
         → handlers_shun types (λ t. false) apart variables hs ≡ true
     handlers_shaped inside no_handlers fits is = refl
     handlers_shaped inside (a_handler choices fs hs) fits is =
         let first = stmts_fit types variables texts exceptions callable inside fs in
         let chosen = list_all (choice_fits exceptions) choices && has_statement fs in
         let fit = and_parts (chosen && first) (handlers_fit types variables texts exceptions callable inside hs) fits in
-        let both = and_parts (are_simple types free fs) (are_simple_handlers types free hs) is in
+        let both = and_parts (are_simple types fs) (are_simple_handlers types hs) is in
         and_from (statements_shun types (λ t. false) apart variables fs) (handlers_shun types (λ t. false) apart variables hs)
         (statements_shaped inside fs (and_parts chosen first fit.0).1 both.0) (handlers_shaped inside hs fit.1 both.1)
 
 -- A simple body of a procedure is of the shape.
 simple_shaped :
     (program : Program) → IsWellFormed (program_form program) → (number : ℕ) (b : BodyForm) → slice_get (program_form program).bodies number ≡ Some b
-    → (free : Bool) → is_simple_body (program_form program).types free b ≡ true
+    → is_simple_body (program_form program).types b ≡ true
     → body_shuns (program_form program).types (λ t. false) (bare_apart program) b ≡ true
-simple_shaped program well number b there free is =
+simple_shaped program well number b there is =
     let p = program_form program in
     let fits = subst (λ (own : ProgramForm). SeenFits own) (seen_as p number b there) (seen_fits p well (Some number)) in
     let declared = are_simple_declarations p.types b.declarations in
     let one = list_all (λ x. holds_one_value x.kind) (drop 1 b.variables) in
-    let outer = and_parts (one && declared && are_simple p.types free b.statements) (are_simple_handlers p.types free b.handlers) is in
-    let inner = and_parts (one && declared) (are_simple p.types free b.statements) outer.0 in
+    let outer = and_parts (one && declared && are_simple p.types b.statements) (are_simple_handlers p.types b.handlers) is in
+    let inner = and_parts (one && declared) (are_simple p.types b.statements) outer.0 in
     let simple =
-    and_from (declared && are_simple p.types free b.statements) (are_simple_handlers p.types free b.handlers)
-    (and_from declared (are_simple p.types free b.statements) (and_parts one declared inner.0).1 inner.1) outer.1 in
+    and_from (declared && are_simple p.types b.statements) (are_simple_handlers p.types b.handlers)
+    (and_from declared (are_simple p.types b.statements) (and_parts one declared inner.0).1 inner.1) outer.1 in
     let callable = callable_in (seen_by number b p) in
-    master_shaped program b.variables p.texts p.exceptions callable free false b.declarations b.statements b.handlers
-    (statements_shaped program b.variables p.texts p.exceptions callable free false b.statements)
-    (handlers_shaped program b.variables p.texts p.exceptions callable free false b.handlers) fits.statements_fit fits.handlers_fit simple
+    master_shaped program b.variables p.texts p.exceptions callable false b.declarations b.statements b.handlers
+    (statements_shaped program b.variables p.texts p.exceptions callable false b.statements)
+    (handlers_shaped program b.variables p.texts p.exceptions callable false b.handlers) fits.statements_fit fits.handlers_fit simple
 
 -- Where an object of an access type is adjusted, no value of that type is followed, and none is freed.
 module _
@@ -271,9 +271,9 @@ module _
 
     -- So the body shuns it.
     pub shuns_around :
-        (b : BodyForm) → slice_get p.bodies number ≡ Some b → (free : Bool) → is_simple_body p.types free b ≡ true
+        (b : BodyForm) → slice_get p.bodies number ≡ Some b → is_simple_body p.types b ≡ true
         → body_shuns p.types (is_around access) (bare_apart program) b ≡ true
-    shuns_around b there free simple =
+    shuns_around b there simple =
         unused_body p (is_around access) (bare_apart program) well number b there
         (λ t around is done.
         let same = only_around t around in
@@ -281,4 +281,4 @@ module _
         (λ t around is done.
         let same = only_around t around in
         frees_none (sym (ap (is_access p.types) same) ∙ is) (subst (λ (n : ℕ). DoesFree p number n) same done))
-        (simple_shaped program well number b there free simple)
+        (simple_shaped program well number b there simple)

@@ -43,7 +43,7 @@ module _ (frugal : Thrift) where
   frugal_declarations (declares_record x t initial ∷ ds) is = absurd (cc is)
 
   mutual
-    frugal_stmt : (f : StmtForm) → is_simple_stmt frugal.types true f ≡ true → is_frugal_stmt frugal f ≡ true
+    frugal_stmt : (f : StmtForm) → is_simple_stmt frugal.types f ≡ true → is_frugal_stmt frugal f ≡ true
     frugal_stmt skips is = refl
     frugal_stmt (assigns target right) is = frugal_right right is
     frugal_stmt (assigns_record target items) is =
@@ -64,15 +64,15 @@ module _ (frugal : Thrift) where
         let three = apart _ _ two.0 in
         rw (frugal_declarations ds three.0, frugal_stmts fs three.1, frugal_handlers hs two.1) refl
 
-    frugal_stmts : (fs : StmtsForm) → are_simple frugal.types true fs ≡ true → are_frugal frugal fs ≡ true
+    frugal_stmts : (fs : StmtsForm) → are_simple frugal.types fs ≡ true → are_frugal frugal fs ≡ true
     frugal_stmts no_stmts is = refl
     frugal_stmts (a_stmt f fs) is = let both = apart _ _ is in rw (frugal_stmt f both.0, frugal_stmts fs both.1) refl
 
-    frugal_branches : (branches : BranchesForm) → are_simple_branches frugal.types true branches ≡ true → are_frugal_branches frugal branches ≡ true
+    frugal_branches : (branches : BranchesForm) → are_simple_branches frugal.types branches ≡ true → are_frugal_branches frugal branches ≡ true
     frugal_branches (otherwise fs) is = frugal_stmts fs is
     frugal_branches (a_branch e fs branches) is = let both = apart _ _ is in rw (frugal_stmts fs both.0, frugal_branches branches both.1) refl
 
-    frugal_handlers : (hs : HandlersForm) → are_simple_handlers frugal.types true hs ≡ true → are_frugal_handlers frugal hs ≡ true
+    frugal_handlers : (hs : HandlersForm) → are_simple_handlers frugal.types hs ≡ true → are_frugal_handlers frugal hs ≡ true
     frugal_handlers no_handlers is = refl
     frugal_handlers (a_handler choices fs hs) is = let both = apart _ _ is in rw (frugal_stmts fs both.0, frugal_handlers hs both.1) refl
 
@@ -95,7 +95,7 @@ module _ (allowance : Allowance) where
   thrifty_declarations (declares_record x t initial ∷ ds) is = absurd (cc is)
 
   mutual
-    thrifty_stmt : (f : StmtForm) → is_simple_stmt allowance.types true f ≡ true → is_thrifty_stmt allowance f ≡ true
+    thrifty_stmt : (f : StmtForm) → is_simple_stmt allowance.types f ≡ true → is_thrifty_stmt allowance f ≡ true
     thrifty_stmt skips is = refl
     thrifty_stmt (assigns target right) is = thrifty_right right is
     thrifty_stmt (assigns_record target items) is =
@@ -117,72 +117,26 @@ module _ (allowance : Allowance) where
         let three = apart _ _ two.0 in
         rw (thrifty_declarations ds three.0, thrifty_stmts fs three.1, thrifty_handlers hs two.1) refl
 
-    thrifty_stmts : (fs : StmtsForm) → are_simple allowance.types true fs ≡ true → are_thrifty allowance fs ≡ true
+    thrifty_stmts : (fs : StmtsForm) → are_simple allowance.types fs ≡ true → are_thrifty allowance fs ≡ true
     thrifty_stmts no_stmts is = refl
     thrifty_stmts (a_stmt f fs) is = let both = apart _ _ is in rw (thrifty_stmt f both.0, thrifty_stmts fs both.1) refl
 
-    thrifty_branches : (branches : BranchesForm) → are_simple_branches allowance.types true branches ≡ true → are_thrifty_branches allowance branches ≡ true
+    thrifty_branches : (branches : BranchesForm) → are_simple_branches allowance.types branches ≡ true → are_thrifty_branches allowance branches ≡ true
     thrifty_branches (otherwise fs) is = thrifty_stmts fs is
     thrifty_branches (a_branch e fs branches) is = let both = apart _ _ is in rw (thrifty_stmts fs both.0, thrifty_branches branches both.1) refl
 
-    thrifty_handlers : (hs : HandlersForm) → are_simple_handlers allowance.types true hs ≡ true → are_thrifty_handlers allowance hs ≡ true
+    thrifty_handlers : (hs : HandlersForm) → are_simple_handlers allowance.types hs ≡ true → are_thrifty_handlers allowance hs ≡ true
     thrifty_handlers no_handlers is = refl
     thrifty_handlers (a_handler choices fs hs) is = let both = apart _ _ is in rw (thrifty_stmts fs both.0, thrifty_handlers hs both.1) refl
-
--- What is simple where bodies may free objects, or where they may not, is simple where they may.
-module _ (types : List TypeForm) (may_free : Bool) where
-  mutual
-    stmt_with : (f : StmtForm) → is_simple_stmt types may_free f ≡ true → is_simple_stmt types true f ≡ true
-    stmt_with skips is = refl
-    stmt_with (assigns target right) is = is
-    stmt_with (assigns_record target items) is = is
-    stmt_with (frees access path) is = (apart may_free (has_bare_objects types access) is).1
-    stmt_with (gets target) is = refl
-    stmt_with (writes e) is = refl
-    stmt_with (writes_text text) is = refl
-    stmt_with (chooses branches) is = branches_with branches is
-    stmt_with (repeats condition fs spot) is = stmts_with fs is
-    stmt_with (counts x low high fs spot) is = stmts_with fs is
-    stmt_with (exits condition spot) is = refl
-    stmt_with (calls procedure actuals) is = is
-    stmt_with (returns spot) is = refl
-    stmt_with (raises e) is = refl
-    stmt_with (encloses ds fs hs) is =
-        let two = apart (are_simple_declarations types ds && are_simple types may_free fs) (are_simple_handlers types may_free hs) is in
-        let three = apart (are_simple_declarations types ds) (are_simple types may_free fs) two.0 in
-        rw (three.0, stmts_with fs three.1, handlers_with hs two.1) refl
-
-    stmts_with : (fs : StmtsForm) → are_simple types may_free fs ≡ true → are_simple types true fs ≡ true
-    stmts_with no_stmts is = refl
-    stmts_with (a_stmt f fs) is = let both = apart _ _ is in rw (stmt_with f both.0, stmts_with fs both.1) refl
-
-    branches_with : (branches : BranchesForm) → are_simple_branches types may_free branches ≡ true → are_simple_branches types true branches ≡ true
-    branches_with (otherwise fs) is = stmts_with fs is
-    branches_with (a_branch e fs branches) is = let both = apart _ _ is in rw (stmts_with fs both.0, branches_with branches both.1) refl
-
-    handlers_with : (hs : HandlersForm) → are_simple_handlers types may_free hs ≡ true → are_simple_handlers types true hs ≡ true
-    handlers_with no_handlers is = refl
-    handlers_with (a_handler choices fs hs) is = let both = apart _ _ is in rw (stmts_with fs both.0, handlers_with hs both.1) refl
-
-  -- Such a body.
-  pub simple_with : (b : BodyForm) → is_simple_body types may_free b ≡ true → is_simple_body types true b ≡ true
-  simple_with b is =
-      let variables = list_all (λ x. holds_one_value x.kind) (drop 1 b.variables) in
-      let declarations = are_simple_declarations types b.declarations in
-      let statements = are_simple types may_free b.statements in
-      let four = apart (variables && declarations && statements) (are_simple_handlers types may_free b.handlers) is in
-      let three = apart (variables && declarations) statements four.0 in
-      and_both (variables && declarations && are_simple types true b.statements) (are_simple_handlers types true b.handlers)
-      (and_both (variables && declarations) (are_simple types true b.statements) three.0 (stmts_with b.statements three.1)) (handlers_with b.handlers four.1)
 
 -- The parts of a simple body.
 pub record SimpleParts (types : List TypeForm) (b : BodyForm) : Type 0 where
   pub variables : list_all (λ x. holds_one_value x.kind) (drop 1 b.variables) ≡ true
   pub declarations : are_simple_declarations types b.declarations ≡ true
-  pub statements : are_simple types true b.statements ≡ true
-  pub handlers : are_simple_handlers types true b.handlers ≡ true
+  pub statements : are_simple types b.statements ≡ true
+  pub handlers : are_simple_handlers types b.handlers ≡ true
 
-pub simple_parts : (types : List TypeForm) (b : BodyForm) → is_simple_body types true b ≡ true → SimpleParts types b
+pub simple_parts : (types : List TypeForm) (b : BodyForm) → is_simple_body types b ≡ true → SimpleParts types b
 simple_parts types b is =
     let four = apart _ _ is in
     let three = apart _ _ four.0 in
@@ -190,7 +144,7 @@ simple_parts types b is =
     record { variables = two.0; declarations = two.1; statements = three.1; handlers = four.1 }
 
 -- It is frugal.
-pub simple_frugal : (frugal : Thrift) (b : BodyForm) → is_simple_body frugal.types true b ≡ true → is_frugal_body frugal b ≡ true
+pub simple_frugal : (frugal : Thrift) (b : BodyForm) → is_simple_body frugal.types b ≡ true → is_frugal_body frugal b ≡ true
 simple_frugal frugal b is =
     let parts = simple_parts frugal.types b is in
     rw (
@@ -200,7 +154,7 @@ simple_frugal frugal b is =
     ) refl
 
 -- It is so where bodies allocate and free no object with controlled parts.
-pub simple_thrifty : (allowance : Allowance) (b : BodyForm) → is_simple_body allowance.types true b ≡ true → is_thrifty_body allowance b ≡ true
+pub simple_thrifty : (allowance : Allowance) (b : BodyForm) → is_simple_body allowance.types b ≡ true → is_thrifty_body allowance b ≡ true
 simple_thrifty allowance b is =
     let parts = simple_parts allowance.types b is in
     rw (
@@ -211,6 +165,6 @@ simple_thrifty allowance b is =
 
 -- It creates no collection, so it nests wherever those of all access types are open.
 pub simple_nests :
-    (types : List TypeForm) → KindsOpen types → (callees : Callees) (b : BodyForm) (around : List ℕ) → HasAll types around → is_simple_body types true b ≡ true
+    (types : List TypeForm) → KindsOpen types → (callees : Callees) (b : BodyForm) (around : List ℕ) → HasAll types around → is_simple_body types b ≡ true
     → body_nests types callees b around ≡ true
 simple_nests types kinds callees b around all is = lone_nests types kinds callees b around all (simple_frugal (calling_none types) b is)

@@ -49,7 +49,7 @@ uses_body p None number b is there uses = absurd (cc is)
 uses_body p (Some procedure) number b is there uses =
     let same : procedure.0 ≡ number = cc is in
     let body : slice_get p.bodies procedure.0 ≡ Some b = rw same there in
-    apart (may_track p) (is_simple_body p.types true b) (rw body at uses)
+    apart (may_track p) (is_simple_body p.types b) (rw body at uses)
 
 -- What some type of a program has makes a procedure one that tracks.
 tracks_at : (p : ProgramForm) (number r : ℕ) (t : TypeForm) → slice_get p.types r ≡ Some t → has_access (Some t) ≡ true → is_adjust_of number (finalization_in (Some t)) ≡ true → is_tracker p number ≡ true
