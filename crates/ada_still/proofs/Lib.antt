@@ -20,5 +20,7 @@ pub mod Without
 pub mod Rebased
 -- operations nest beside the others
 pub mod Beside
+-- whether they do so, by the text of a program
+pub mod Text
 -- the premise is met, and needed
 pub mod Example

@@ -3,6 +3,7 @@
 ghost use Rattle.ada_still.specs.Beside.{OwnTypesHaveOneCollection};
 ghost use Rattle.ada_still.specs.Example.{PremiseIsMet, PremiseIsNeeded};
 ghost use Rattle.ada_still.specs.Law.{CollectionsStandStill, StandStillWhereStill};
+ghost use Rattle.ada_still.specs.Text.{BesideByText, OneCollectionByText, StillByText};
 
 /// While the collection of one of these access types is open, no treatment of controlled parts comes next, and no operation's body
 /// runs in front of its end, whichever procedures are still where they call each other alone.
@@ -29,4 +30,20 @@ pub fn premise_is_met()
 /// It is needed: where the Finalize declares an object of its own type besides, that is finalized while the collection is open.
 pub fn premise_is_needed()
     ensures { PremiseIsNeeded }
+{}
+
+/// Types are those of still procedures wherever the text of a program says so.
+pub fn still_by_text()
+    ensures { StillByText }
+{}
+
+/// They nest beside the others wherever the text says so: objects of other types name none of them, each body names them only inside what
+/// creates their collections, and operations create collections of them alone, and nest where those of all others are open.
+pub fn beside_by_text()
+    ensures { BesideByText }
+{}
+
+/// So no access type has two collections at a time where the text says both.
+pub fn one_collection_by_text()
+    ensures { OneCollectionByText }
 {}
