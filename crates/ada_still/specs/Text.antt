@@ -1,7 +1,7 @@
 -- Whether access types stand beside the others, by the text of a program: each body names them only inside what creates their collections.
 
-use Rattle.std.specs.Prelude.{◌≡◌, ℕ, zero, suc, Bool, true, false, ◌&&◌, ◌||◌, not, if◌then◌else◌, List, [], ◌∷◌, ◌++◌, length, Option, Some, None, AllPairs}
-use Rattle.std.specs.List.{list_all, slice_get, slice_index_or}
+use Rattle.std.specs.Prelude.{◌≡◌, ℕ, zero, suc, Bool, true, false, ◌&&◌, ◌||◌, ◌==◌, not, if◌then◌else◌, List, [], ◌∷◌, ◌++◌, length, Option, Some, None, AllPairs}
+use Rattle.std.specs.List.{list_all, list_any, slice_get, slice_index_or}
 use Rattle.ada_program.specs.declared.program.ComponentKind.{ComponentKind}
 use Rattle.ada_program.specs.declared.program.ComponentKind.TheVariants as component
 use Rattle.ada_program.specs.declared.program.Operations.{Operations}
@@ -12,10 +12,10 @@ use Rattle.ada_program.specs.Form.{DeclarationForm, StmtForm, skips, assigns, as
 use Rattle.ada_program.specs.Freed.{FreesItsOwn}
 use Rattle.ada_program.specs.Nested.{call_nests, callees_of, collected, record_objects, is_one_of, CollectionsNest}
 use Rattle.ada_program.specs.ProgramForm.{TypeForm, BodyForm, ProgramForm, main_body, program_form}
-use Rattle.ada_program.specs.WellFormed.{IsWellFormed, Creation, of_pool, of_collection, of_variable, created_in, is_access, finalization_of, reached_components}
+use Rattle.ada_program.specs.WellFormed.{IsWellFormed, Creation, of_pool, of_collection, of_variable, created_in, is_access, finalization_in, finalization_of, reached_components}
 use Rattle.ada_meaning.specs.Law.{items_of}
 use Rattle.ada_scopes.specs.Scopes.{InItsRuns, CollectTwoTypes}
-use Rattle.ada_still.specs.Still.{collects_none, is_still, CollectStill}
+use Rattle.ada_still.specs.Still.{Bounds, body_keeps, collects_none, is_still, CollectStill}
 use Rattle.ada_still.specs.Beside.{are_other_kinds, NestBeside}
 
 -- A component holds no access value of one of these types, or one of a type whose collection the text creates around it (3.8, 7.6.1).
@@ -149,11 +149,53 @@ abbrev pub collected_in : (chosen : ℕ → Bool) → (number : ℕ) → List Bo
 collected_in chosen n [] = []
 collected_in chosen n (b ∷ bs) = if chosen n then accesses_in (created_in b) ++ collected_in chosen (suc n) bs else collected_in chosen (suc n) bs
 
+-- The procedure that overrides an operation, if one does, has this number (7.6).
+abbrev pub is_this : (number : ℕ) → Option ProcedureNo → Bool
+is_this n None = false
+is_this n (Some procedure) = procedure.0 == n
+
+-- So does one of these operations.
+abbrev pub overridden_by : (number : ℕ) → Operations → Bool
+overridden_by n o = is_this n o.initialize || is_this n o.adjust || is_this n o.finalize
+
+-- It overrides an operation of a type of the program.
+abbrev pub operates : ProgramForm → (number : ℕ) → Bool
+operates p n = list_any (λ t. overridden_by n (operations_in (finalization_in (Some t)))) p.types
+
+-- What a text may do that does not call the procedure of this number: all else.
+abbrev pub bounds_uncalled : (number : ℕ) → Bounds
+bounds_uncalled n = record {
+  collects = λ access. true;
+  creates = λ t. true;
+  assigns = λ t. true;
+  frees = λ access. true;
+  calls = λ procedure. not (procedure == n);
+}
+
+-- One of these bodies that are marked calls it (6.4).
+abbrev pub is_called_by : (number : ℕ) → (marks : List Bool) → List BodyForm → Bool
+is_called_by n [] bs = false
+is_called_by n (m ∷ ms) [] = false
+is_called_by n (m ∷ ms) (b ∷ bs) = (m && not (body_keeps (bounds_uncalled n) b)) || is_called_by n ms bs
+
+-- Of these procedures, from a number on, whether each runs in operations: it overrides one, or is called by a body of such a procedure, after it.
+abbrev pub running_from : ProgramForm → (number : ℕ) → List BodyForm → List Bool
+running_from p n [] = []
+running_from p n (b ∷ bs) = (operates p n || is_called_by n (running_from p (suc n) bs) bs) ∷ running_from p (suc n) bs
+
+-- Whether a procedure of a program runs in operations.
+abbrev pub runs_in_operations : ProgramForm → (procedure : ℕ) → Bool
+runs_in_operations p procedure = slice_index_or (running_from p 0 p.bodies) procedure false
+
 -- The access types whose collections the bodies of chosen procedures create, and the types of objects that name one of these.
 abbrev pub own_types : (chosen : (procedure : ℕ) → Bool) → ProgramForm → ℕ → Bool
 own_types chosen p t =
     let mine = is_one_of (collected_in chosen 0 p.bodies) in
     mine t || not (are_other_kinds mine (reached_components p.types t))
+
+-- The own types of operations: those of the procedures that run in operations.
+abbrev pub own_of_operations : ProgramForm → ℕ → Bool
+own_of_operations p = own_types (runs_in_operations p) p
 
 -- Types are those of still procedures wherever the text says so.
 abbrev pub StillByText : Type 0

@@ -1,7 +1,7 @@
 //! The laws of still bodies. Each is a function that does nothing, and whose contract is the theorem.
 
 ghost use Rattle.ada_still.specs.Beside.{OwnTypesHaveOneCollection};
-ghost use Rattle.ada_still.specs.Example.{PremiseIsMet, PremiseIsNeeded};
+ghost use Rattle.ada_still.specs.Example.{PremiseIsMet, PremiseIsNeeded, TextSaysSo};
 ghost use Rattle.ada_still.specs.Law.{CollectionsStandStill, StandStillWhereStill};
 ghost use Rattle.ada_still.specs.Text.{BesideByText, OneCollectionByText, StillByText};
 
@@ -46,4 +46,9 @@ pub fn beside_by_text()
 /// So no access type has two collections at a time where the text says both.
 pub fn one_collection_by_text()
     ensures { OneCollectionByText }
+{}
+
+/// The text of the program that meets the premise says both, of the own types of its operations.
+pub fn text_says_so()
+    ensures { TextSaysSo }
 {}
