@@ -1,7 +1,7 @@
 -- Whether access types stand beside the others, by the text of a program: each body names them only inside what creates their collections.
 
-use Rattle.std.specs.Prelude.{◌≡◌, ℕ, zero, suc, Bool, true, false, ◌&&◌, ◌||◌, ◌==◌, not, if◌then◌else◌, List, [], ◌∷◌, ◌++◌, length, Option, Some, None, AllPairs}
-use Rattle.std.specs.List.{list_all, list_any, slice_get, slice_index_or}
+use Rattle.std.specs.Prelude.{◌≡◌, ℕ, suc, Bool, true, false, ◌&&◌, ◌||◌, ◌==◌, not, if◌then◌else◌, List, [], ◌∷◌, ◌++◌, Option, Some, None, AllPairs}
+use Rattle.std.specs.List.{list_all, list_any, slice_index_or}
 use Rattle.ada_program.specs.declared.program.ComponentKind.{ComponentKind}
 use Rattle.ada_program.specs.declared.program.ComponentKind.TheVariants as component
 use Rattle.ada_program.specs.declared.program.Operations.{Operations}
@@ -10,7 +10,7 @@ use Rattle.ada_program.specs.declared.program.Program.{Program}
 use Rattle.ada_program.specs.Controlled.{operations_in}
 use Rattle.ada_program.specs.Form.{DeclarationForm, StmtForm, skips, assigns, assigns_record, frees, gets, writes, writes_text, chooses, repeats, counts, exits, calls, returns, raises, encloses, StmtsForm, no_stmts, a_stmt, BranchesForm, otherwise, a_branch, HandlersForm, no_handlers, a_handler}
 use Rattle.ada_program.specs.Freed.{FreesItsOwn}
-use Rattle.ada_program.specs.Nested.{call_nests, callees_of, collected, record_objects, is_one_of, CollectionsNest}
+use Rattle.ada_program.specs.Nested.{collected, record_objects, is_one_of, CollectionsNest}
 use Rattle.ada_program.specs.ProgramForm.{TypeForm, BodyForm, ProgramForm, main_body, program_form}
 use Rattle.ada_program.specs.WellFormed.{IsWellFormed, Creation, of_pool, of_collection, of_variable, created_in, is_access, finalization_in, finalization_of, reached_components}
 use Rattle.ada_meaning.specs.Law.{items_of}
@@ -91,30 +91,24 @@ staying_from types own collects known (b ∷ bs) =
 abbrev pub naming_inside : (own : ℕ → Bool) → ProgramForm → List Bool
 naming_inside own p = staying_from p.types own (λ access. true) [] p.bodies
 
+-- These are access types of their own.
+abbrev pub own_accesses : List TypeForm → (own : ℕ → Bool) → (access : ℕ) → Bool
+own_accesses types own access = own access && is_access types access
+
 -- And whether, besides, it and what it calls create collections of own types alone.
 abbrev pub collecting_own : (own : ℕ → Bool) → ProgramForm → List Bool
-collecting_own own p = staying_from p.types own own [] p.bodies
+collecting_own own p = staying_from p.types own (own_accesses p.types own) [] p.bodies
 
--- The access types below a number, but for their own.
-abbrev pub others_below : List TypeForm → (own : ℕ → Bool) → (count : ℕ) → List ℕ
-others_below types own zero = []
-others_below types own (suc n) = if is_access types n && not (own n) then n ∷ others_below types own n else others_below types own n
-
--- The access types of a program, but for their own.
-abbrev pub other_accesses : (own : ℕ → Bool) → ProgramForm → List ℕ
-other_accesses own p = others_below p.types own (length p.types)
-
--- A procedure that overrides an operation, if one does, creates collections of own types alone, and nests where the collections of all others are open.
+-- A procedure that overrides an operation, if one does, names own types only so, and creates collections of these alone.
 abbrev pub operation_stays : (own : ℕ → Bool) → ProgramForm → Option ProcedureNo → Bool
 operation_stays own p None = true
-operation_stays own p (Some procedure) =
-    slice_index_or (collecting_own own p) procedure.0 false && call_nests (slice_get (callees_of p) procedure.0) (other_accesses own p)
+operation_stays own p (Some procedure) = slice_index_or (collecting_own own p) procedure.0 false
 
 -- So does each operation of a type.
 abbrev pub operations_stay : (own : ℕ → Bool) → ProgramForm → Operations → Bool
 operations_stay own p o = operation_stays own p o.initialize && operation_stays own p o.adjust && operation_stays own p o.finalize
 
--- Objects of a type name no own type, if it is another one, and its operations nest beside the others.
+-- Objects of a type name no own type, if it is another one, and its operations create collections of own types alone.
 abbrev pub type_is_beside : (own : ℕ → Bool) → ProgramForm → (t : ℕ) → Bool
 type_is_beside own p t =
     (own t || are_other_kinds own (reached_components p.types t)) && operations_stay own p (operations_in (finalization_of p.types t))
@@ -201,9 +195,9 @@ own_of_operations p = own_types (runs_in_operations p) p
 abbrev pub StillByText : Type 0
 StillByText = (p : ProgramForm) (own : ℕ → Bool) → still_by_text own p ≡ true → CollectStill own p
 
--- They nest beside the others wherever it says so.
+-- They nest beside the others wherever it says so, in a well-formed program: each access type has one collection (7.6.1).
 abbrev pub BesideByText : Type 0
-BesideByText = (p : ProgramForm) (own : ℕ → Bool) → nest_by_text own p ≡ true → NestBeside own p
+BesideByText = (p : ProgramForm) → IsWellFormed p → (own : ℕ → Bool) → nest_by_text own p ≡ true → NestBeside own p
 
 -- No access type has two collections at a time (7.6.1), also where operations declare access types, if the text says both of these.
 abbrev pub OneCollectionByText : Type 0
