@@ -81,7 +81,7 @@ module _ (types : List TypeForm) (own collects : ℕ → Bool) (may_call : (proc
   body_stays b =
       part_stays types own collects [] b.declarations && stmts_stay (collected b.declarations) b.statements && handlers_stay (collected b.declarations) b.handlers
 
--- Of these procedures, behind others, whether their bodies do: each calls those before it.
+-- Of these procedures, behind others, whether their bodies do: each calls those before it (6.4).
 abbrev pub staying_from : List TypeForm → (own collects : ℕ → Bool) → (known : List Bool) → List BodyForm → List Bool
 staying_from types own collects known [] = known
 staying_from types own collects known (b ∷ bs) =
@@ -91,15 +91,15 @@ staying_from types own collects known (b ∷ bs) =
 abbrev pub naming_inside : (own : ℕ → Bool) → ProgramForm → List Bool
 naming_inside own p = staying_from p.types own (λ access. true) [] p.bodies
 
--- These are access types of their own.
+-- A type is an access type, and one of the own ones (3.10).
 abbrev pub own_accesses : List TypeForm → (own : ℕ → Bool) → (access : ℕ) → Bool
 own_accesses types own access = own access && is_access types access
 
--- And whether, besides, it and what it calls create collections of own types alone.
+-- And whether, besides, it and what it calls create collections of own types alone (7.6.1).
 abbrev pub collecting_own : (own : ℕ → Bool) → ProgramForm → List Bool
 collecting_own own p = staying_from p.types own (own_accesses p.types own) [] p.bodies
 
--- A procedure that overrides an operation, if one does, names own types only so, and creates collections of these alone.
+-- A procedure that overrides an operation, if one does, names own types only so, and creates collections of these alone (7.6).
 abbrev pub operation_stays : (own : ℕ → Bool) → ProgramForm → Option ProcedureNo → Bool
 operation_stays own p None = true
 operation_stays own p (Some procedure) = slice_index_or (collecting_own own p) procedure.0 false
@@ -131,14 +131,14 @@ are_still_by_text own p n (b ∷ bs) = (collects_none own b || is_still p n) && 
 abbrev pub still_by_text : (own : ℕ → Bool) → ProgramForm → Bool
 still_by_text own p = collects_none own (main_body p) && are_still_by_text own p 0 p.bodies
 
--- The access types whose collections are created.
+-- The access types whose collections are created (7.6.1).
 abbrev pub accesses_in : List Creation → List ℕ
 accesses_in [] = []
 accesses_in (of_pool pool ∷ cs) = accesses_in cs
 accesses_in (of_collection access ∷ cs) = access ∷ accesses_in cs
 accesses_in (of_variable x ∷ cs) = accesses_in cs
 
--- Those of one of the chosen procedures, by its number.
+-- Those that the bodies of chosen procedures create, of these from a number on.
 abbrev pub collected_in : (chosen : ℕ → Bool) → (number : ℕ) → List BodyForm → List ℕ
 collected_in chosen n [] = []
 collected_in chosen n (b ∷ bs) = if chosen n then accesses_in (created_in b) ++ collected_in chosen (suc n) bs else collected_in chosen (suc n) bs

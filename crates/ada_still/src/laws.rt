@@ -37,8 +37,8 @@ pub fn still_by_text()
     ensures { StillByText }
 {}
 
-/// They nest beside the others wherever the text says so: objects of other types name none of them, each body names them only inside what
-/// creates their collections, and operations create collections of them alone, and nest where those of all others are open.
+/// They nest beside the others wherever the text says so, in a well-formed program: objects of other types name none of them, each body
+/// names them only inside what creates their collections, and operations, and what they call, create collections of them alone.
 pub fn beside_by_text()
     ensures { BesideByText }
 {}
