@@ -158,6 +158,17 @@ module _ (program : Program) (well : IsWellFormed (program_form program)) (frees
       run_beside [] (first_state program input) last events run.here (kept_first program input) (first_some program well frees_own own still collect input)
       (first_nested program well nest input) so_run
 
+-- It does after a step also where this is known of operations only if an object is treated next.
+pub step_if_treated : (program : Program) → IsWellFormed (program_form program) → FreesItsOwn (program_form program) → (own still : ℕ → Bool)
+    → CollectWhereStill own still (program_form program) → (input : List ℤ) (s after : State) (choice : Choice) (e : Event)
+    → (TreatsFirst s.control → NestBeside own (program_form program)) → SomeRests (program_form program).types (body_forms program) still own s
+    → Scoped (program_form program) s → Step program s choice e after → Scoped (program_form program) after
+step_if_treated program well frees_own own still collect input s after choice e beside rests scoped step = by (treats_now s.control)
+  where
+    by : TreatsFirst s.control ⊎ (TreatsFirst s.control → ⊥) → Scoped (program_form program) after
+    by (inl first) = step_beside program well frees_own own still collect (beside first) input s after choice e rests scoped step
+    by (inr other) = step_where false program s after choice e scoped (λ treats. absurd (other treats)) step
+
 pub one_collection : OwnTypesHaveOneCollection
 one_collection program well nest frees_own own collect beside input events last so_run =
     collect_two (program_form program) last

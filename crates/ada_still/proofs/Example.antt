@@ -19,7 +19,7 @@ use Rattle.ada_program.specs.Form.{expression_form, stmt_form, skips, allocates_
 use Rattle.ada_program.specs.Freed.{statements_free_own, body_frees_own, FreesItsOwn}
 use Rattle.ada_program.specs.Controlled.{operations_in}
 use Rattle.ada_program.specs.Nested.{Callees, call_nests, callees_from, collected, is_one_of, statements_nest, CollectionsNest}
-use Rattle.ada_program.specs.ProgramForm.{BodyForm, variable_form, body_forms, program_form}
+use Rattle.ada_program.specs.ProgramForm.{BodyForm, ProgramForm, variable_form, body_forms, program_form}
 use Rattle.ada_program.specs.WellFormed.{reached_components, finalization_of, IsWellFormed, created_in_all, creates_from, has_collections, profile_of, have_operations, bodies_fit, stmts_fit}
 use Rattle.ada_meaning.specs.declared.event.Halt.TheVariants.{Finished}
 use Rattle.ada_meaning.specs.declared.state.Value.{Value}
@@ -34,7 +34,8 @@ use Rattle.ada_scopes.proofs.Example.{steps, vec, no_name, cell_of, access_to, c
 use Rattle.ada_still.specs.Still.{stmts_keep, bounds_without, still_from, CollectStill}
 use Rattle.ada_still.specs.Beside.{IsWithout, are_other_kinds, AllNestBeside, NestBeside}
 use Rattle.ada_still.specs.Law.{IsOther, AreOther, is_treatment, TreatsWhereNoneIsOpen, TreatsElsewhere}
-use Rattle.ada_still.specs.Example.{AllocatesInOperation, PremiseIsMet, PremiseIsNeeded}
+use Rattle.ada_still.specs.Text.{nest_by_text, still_by_text, own_of_operations}
+use Rattle.ada_still.specs.Example.{AllocatesInOperation, PremiseIsMet, TextSaysSo, PremiseIsNeeded}
 
 -- The access type that the Finalize declares.
 abbrev near : ℕ → Bool
@@ -224,6 +225,52 @@ nests_beside = record {
 
 pub premise_is_met : PremiseIsMet
 premise_is_met = (program, well_formed, nests, frees_own, near, collects_still, nests_beside, allocated, finishes)
+
+-- The text says so of the own types of its operations.
+abbrev over : List BodyForm → StmtsForm → ProgramForm
+over bs fs =
+    let p = program_form program in
+    record {
+      types = p.types;
+      pools = p.pools;
+      bodies = bs;
+      formals = p.formals;
+      variables = p.variables;
+      texts = p.texts;
+      exceptions = p.exceptions;
+      declarations = p.declarations;
+      statements = fs;
+      handlers = p.handlers;
+      start_spot = p.start_spot;
+      end_spot = p.end_spot;
+    }
+
+text_is_still : still_by_text (own_of_operations (program_form program)) (program_form program) ≡ true
+text_is_still = of_both (λ bs fs. still_by_text (own_of_operations (over bs fs)) (over bs fs)) refl
+
+text_nests : nest_by_text (own_of_operations (program_form program)) (program_form program) ≡ true
+text_nests = of_both (λ bs fs. nest_by_text (own_of_operations (over bs fs)) (over bs fs)) refl
+
+own_there : own_of_operations (program_form program) 1 ≡ true
+own_there = of_both (λ bs fs. own_of_operations (over bs fs) 1) refl
+
+allocated_own : InSomeRun program (λ events last. AllocatesInOperation (own_of_operations (program_form program)) last)
+unfolding next expression_form stmt_form
+allocated_own =
+    run_by program bodies forms bodies_are forms_are (steps 7 ++ takes 0 ∷ steps 4 ++ grants true ∷ [])
+    (λ events last. AllocatesInOperation (own_of_operations (program_form program)) last) refl
+    (record {
+      o = record { 0 = 1 };
+      object = _;
+      there = refl;
+      listed = refl;
+      mine = own_there;
+      opened = (record { number = 1; owned = collection 1 (Some 0) }, Some 0, (0, omega arith, refl), refl);
+      operates = refl;
+    })
+
+pub text_says_so : TextSaysSo
+text_says_so = (program, well_formed, nests, frees_own, text_is_still, text_nests, allocated_own, finishes)
 
 -- In another such program the Finalize declares an object of its own type, Y : Link, in place of the allocator.
 abbrev recurring_bodies : List BodyForm

@@ -20,5 +20,11 @@ pub mod Without
 pub mod Rebased
 -- operations nest beside the others
 pub mod Beside
+-- what nests where none of some access types is open, by the text
+pub mod Turns
+-- operations nest by their text
+pub mod Room
+-- the laws by the text of a program
+pub mod Text
 -- the premise is met, and needed
 pub mod Example

@@ -16,6 +16,7 @@ use Rattle.ada_scopes.specs.Scopes.{IsOpenIn}
 use Rattle.ada_still.specs.Still.{CollectStill}
 use Rattle.ada_still.specs.Beside.{NestBeside}
 use Rattle.ada_still.specs.Law.{is_treatment, TreatsElsewhere}
+use Rattle.ada_still.specs.Text.{nest_by_text, still_by_text, own_of_operations}
 
 -- An object lies in the open collection of one of these access types, and the body of an operation is in front of its end.
 pub record AllocatesInOperation (own : ℕ → Bool) (s : State) : Type 0 where
@@ -34,6 +35,14 @@ PremiseIsMet =
     (program : Program) × IsWellFormed (program_form program) × CollectionsNest (program_form program) × FreesItsOwn (program_form program)
     × (own : ℕ → Bool) × CollectStill own (program_form program) × NestBeside own (program_form program)
     × InSomeRun program (λ events last. AllocatesInOperation own last) × InSomeRun program (λ events last. Halts program last Finished)
+
+-- The text of that program says both of the own types of its operations.
+abbrev pub TextSaysSo : Type 0
+TextSaysSo =
+    (program : Program) × IsWellFormed (program_form program) × CollectionsNest (program_form program) × FreesItsOwn (program_form program)
+    × (still_by_text (own_of_operations (program_form program)) (program_form program) ≡ true)
+    × (nest_by_text (own_of_operations (program_form program)) (program_form program) ≡ true)
+    × InSomeRun program (λ events last. AllocatesInOperation (own_of_operations (program_form program)) last) × InSomeRun program (λ events last. Halts program last Finished)
 
 -- It is needed: in one whose Finalize declares such an access type, and an object of its own type, that is finalized while the collection is open.
 abbrev pub PremiseIsNeeded : Type 0

@@ -6,5 +6,7 @@ pub mod Still
 pub mod Law
 -- operations that declare access types of their own nest beside the others
 pub mod Beside
+-- whether they do so, by the text of a program
+pub mod Text
 -- the premise is met, and needed
 pub mod Example

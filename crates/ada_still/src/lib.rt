@@ -4,7 +4,9 @@
 //! definitions of meaning, and its contract is the statement.
 //!
 //! What a crate above takes from here: `is_still` and `CollectStill` of `specs::Still`, `TreatsWhereNoneIsOpen` of `specs::Law`,
-//! `NestBeside` of `specs::Beside`, and `state_beside` and `step_beside` of `proofs::Beside`: each state of a run nests.
+//! `NestBeside` of `specs::Beside`, and `state_beside`, `step_beside` and `step_if_treated` of `proofs::Beside`: each state of a run
+//! nests. When the premises hold is said by the text of a program: `still_by_text` and `nest_by_text` of `specs::Text`, and
+//! `collect_by_text` and `beside_by_text` of `proofs::Text`.
 #![tactic(auto)]
 
 pub mod laws;
