@@ -1,0 +1,4 @@
+-- Operations inside of each other.
+
+-- the laws
+pub mod Law
