@@ -1,6 +1,6 @@
 -- No operation runs of an object that is new, or that a Free takes out of its collection, all of whose parts have values (4.8, 13.11.2).
 
-use Rattle.std.proofs.Common.{◌≡◌, ℕ, zero, suc, ◌+◌, ◌<◌, ◌≤◌, Bool, true, false, ◌&&◌, if◌then◌else◌, List, [], ◌∷◌, length, ℤ, Option, Some, None, refl, sym, ap, ◌∙◌, subst, arith}
+use Rattle.std.proofs.Common.{◌≡◌, ℕ, zero, suc, ◌<◌, Bool, true, false, ◌&&◌, if◌then◌else◌, List, [], ◌∷◌, length, ℤ, Option, Some, None, refl, sym, ap, ◌∙◌, subst, arith}
 use Rattle.std.specs.List.{slice_get}
 use Rattle.ada_program.specs.declared.program.Program.{Program}
 use Rattle.ada_program.specs.declared.program.TypeDefinition.{TypeDefinition}
@@ -12,18 +12,17 @@ use Rattle.ada_meaning.specs.declared.state.Value.{Value}
 use Rattle.ada_meaning.specs.declared.state.Value.TheVariants.{Null, Names, Scalar, Part as Inside}
 use Rattle.ada_meaning.specs.Frame.{Frame, begins, ends}
 use Rattle.ada_meaning.specs.Frame as frame
-use Rattle.ada_meaning.specs.Heap.{PartState, Cell, Found, on_gone, finds}
+use Rattle.ada_meaning.specs.Heap.{PartState, Cell, on_gone, finds}
 use Rattle.ada_meaning.specs.Named.{Object, State, standing, standing_by, all_alive}
 use Rattle.ada_meaning.specs.Run.{Event, Run, first_state}
-use Rattle.ada_meaning.specs.Step.{parts_held, operands}
-use Rattle.ada_finalized.specs.Law.{NoOperationRunsOn, NamesExisting}
+use Rattle.ada_meaning.specs.Step.{parts_held}
+use Rattle.ada_finalized.specs.Law.{NoOperationRunsOn}
 use Rattle.ada_finalized.proofs.Claims.{Claimed}
 use Rattle.ada_finalized.proofs.Counts.{one_if}
 use Rattle.ada_finalized.proofs.Doings.{name, same_name, Doing, Treating, Ending, doings, Calm, rest, rest_doings, Of, of_map, Other, Lasts, gains, losses}
 use Rattle.ada_finalized.proofs.Going.{listed_exists}
 use Rattle.ada_finalized.proofs.Invariant.{Sane, exists, is_gone, AssignsThen, Stands, runs, finding, passing, ends_operation, beginning, ending, leaving, storing, Fits}
 use Rattle.ada_finalized.proofs.Ranks.{Heap}
-use Rattle.ada_finalized.proofs.Runs.{past_then, last_holds}
 use Rattle.ada_finalized.proofs.Stacks.{Acts, Control, code, guard, finalization, Stack, awaits, confines, to_end, to_copy, IsPart, IsSpare, others}
 use Rattle.ada_finalized.proofs.Standing.{none_runs_on}
 use Rattle.ada_finalized.proofs.Twice.{operated_exist}

@@ -1,6 +1,6 @@
 -- What an assignment finalizes and adjusts is inside of each operation of its object that runs (5.2, 7.6, 7.6.1).
 
-use Rattle.std.proofs.Common.{◌≡◌, ◌⊎◌, inl, inr, ℕ, ◌≤◌, Bool, true, false, ◌&&◌, ◌||◌, List, [], ◌∷◌, refl, sym, ap, ◌∙◌, subst, arith}
+use Rattle.std.proofs.Common.{◌≡◌, inl, inr, ℕ, Bool, true, false, ◌||◌, List, [], ◌∷◌, refl, sym, ap, ◌∙◌, subst, arith}
 use Rattle.std.specs.List.{Contains}
 use Rattle.std.proofs.lemmas.Bool.{and_from}
 use Rattle.ada_program.specs.declared.program.TypeDefinition.{TypeDefinition}
@@ -10,29 +10,28 @@ use Rattle.ada_parts.specs.declared.tasks.Direction.TheVariants.{PartsFirst, Who
 use Rattle.ada_parts.specs.Part.{numbers}
 use Rattle.ada_parts.specs.Task.{Task}
 use Rattle.ada_parts.specs.Law.{parts_left}
-use Rattle.ada_meaning.specs.declared.event.Birth.TheVariants.{Adjustment}
 use Rattle.ada_meaning.specs.declared.event.Cause.{Cause}
 use Rattle.ada_meaning.specs.declared.event.Cause.TheVariants.{Assigning}
 use Rattle.ada_meaning.specs.declared.state.Id.{Id}
 use Rattle.ada_meaning.specs.declared.state.Mode.TheVariants.{Running, Raising}
 use Rattle.ada_meaning.specs.declared.state.Place.{Place}
 use Rattle.ada_meaning.specs.declared.state.Value.{Value}
-use Rattle.ada_meaning.specs.declared.state.Value.TheVariants.{Null, Names, Scalar, Part as Inside}
+use Rattle.ada_meaning.specs.declared.state.Value.TheVariants.{Null, Names, Part as Inside}
 use Rattle.ada_meaning.specs.Frame.{Frame, begins, ends}
 use Rattle.ada_meaning.specs.Frame as frame
 use Rattle.ada_meaning.specs.Step.{record_tasks, first_or, older, operands}
 use Rattle.ada_meaning.specs.Named.{State}
 use Rattle.ada_formals.specs.Formals as formal
 use Rattle.ada_formals.proofs.Standing.{ends_operation}
-use Rattle.ada_finalized.specs.Law.{finalized_before, left_to_finalize, NoOperationRunsOn, IsInside, TreatsInside}
-use Rattle.ada_finalized.proofs.Counts.{count, count_has}
+use Rattle.ada_finalized.specs.Law.{NoOperationRunsOn, IsInside, TreatsInside}
+use Rattle.ada_finalized.proofs.Counts.{count_has}
 use Rattle.ada_finalized.proofs.Doings.{name, Calm, rest}
 use Rattle.ada_finalized.proofs.Inside.{counted, none_inside}
 use Rattle.ada_finalized.proofs.Invariant.{AssignsThen, Stands as StandsOver, runs, finding, passing, ends_operation as ends_guard, beginning, ending, leaving, storing}
 use Rattle.ada_finalized.proofs.Ranks.{Heap}
 use Rattle.ada_finalized.proofs.Stacks.{Acts, Control, code, guard, finalization, Stack, nothing, calm, comes_back, operates, awaits, confines, to_end, to_copy, ending_then, storing_then}
 use Rattle.ada_finalized.proofs.Treated.{record_first}
-use Rattle.ada_assigned.proofs.Keeping.{Told, behind_body, runs_operation, ApartBeside, LiesInOperated, LiesSafely, Keeps}
+use Rattle.ada_assigned.proofs.Keeping.{Told, behind_body, runs_operation, ApartBeside, LiesSafely, Keeps}
 use Rattle.ada_assigned.proofs.Seeking.{Operated, Sought, target_next, source_next, follows as follows_path, reaches as reaches_record, both_known, Stands, keeps, seeks, fails}
 use Rattle.ada_inside.specs.Law.{NestInside}
 use Rattle.ada_inside.proofs.Nesting.{nests_behind}

@@ -1,9 +1,8 @@
 -- What is left to do nests inside of each other: frames that no jump and no treatment stops at do not count.
 
-use Rattle.std.proofs.Common.{◌≡◌, ℕ, List, [], ◌∷◌, sym, subst, arith}
-use Rattle.std.specs.List.{Contains}
+use Rattle.std.proofs.Common.{◌≡◌, List, [], ◌∷◌, sym, subst, arith}
 use Rattle.ada_parts.specs.Shape.{Shape}
-use Rattle.ada_parts.specs.Part.{Part, numbers}
+use Rattle.ada_parts.specs.Part.{Part}
 use Rattle.ada_parts.specs.Task.{Task}
 use Rattle.ada_meaning.specs.declared.event.Birth.{Birth}
 use Rattle.ada_meaning.specs.declared.event.Cause.{Cause}
@@ -11,8 +10,8 @@ use Rattle.ada_meaning.specs.declared.state.Value.{Value}
 use Rattle.ada_meaning.specs.Frame.{Frame, Treatment, begins, ends}
 use Rattle.ada_meaning.specs.Frame as frame
 use Rattle.ada_meaning.specs.Step.{treating}
-use Rattle.ada_finalized.specs.Law.{NoOperationRunsOn, IsInside, TreatsInside}
-use Rattle.ada_finalized.proofs.Doings.{Calm, rest}
+use Rattle.ada_finalized.specs.Law.{NoOperationRunsOn, TreatsInside}
+use Rattle.ada_finalized.proofs.Doings.{rest}
 use Rattle.ada_finalized.proofs.Inside.{none_inside}
 use Rattle.ada_finalized.proofs.Stacks.{Control}
 use Rattle.ada_inside.specs.Law.{BegunInside, NestInside}

@@ -1,20 +1,18 @@
 -- Each step: all that is left to do nests still.
 
-use Rattle.std.proofs.Common.{◌≡◌, ℕ, ◌+◌, ◌<◌, ℤ, zero, suc, ◌==◌, Bool, true, false, if◌then◌else◌, List, [], ◌∷◌, length, map, Option, Some, None, refl, sym, ap, ◌∙◌, subst, arith}
+use Rattle.std.proofs.Common.{◌≡◌, ℕ, ℤ, zero, suc, ◌==◌, Bool, true, false, if◌then◌else◌, List, [], ◌∷◌, length, Option, Some, None, refl, sym, ap, ◌∙◌, subst, arith}
 use Rattle.std.specs.List.{slice_get, Contains}
 use Rattle.ada_program.specs.declared.program.Exception.{Exception}
 use Rattle.ada_program.specs.declared.program.Program.{Program}
 use Rattle.ada_program.specs.declared.program.TypeDefinition.{TypeDefinition}
 use Rattle.ada_program.specs.Controlled.{operations_of, procedure_number, shapes_of}
-use Rattle.ada_program.specs.Form.{ActualForm}
 use Rattle.ada_program.specs.ProgramForm.{BodyForm, body_forms}
 use Rattle.ada_program.specs.Typed.{width_of}
 use Rattle.ada_parts.specs.declared.tasks.Direction.TheVariants.{PartsFirst, WholeFirst}
 use Rattle.ada_parts.specs.declared.tasks.Component.{Component}
 use Rattle.ada_parts.specs.Shape.{Shape}
-use Rattle.ada_parts.specs.Part.{Part, numbers, LiesIn}
+use Rattle.ada_parts.specs.Part.{Part, numbers}
 use Rattle.ada_parts.specs.Task.{Task, performs, treats}
-use Rattle.ada_parts.specs.Law.{parts_left}
 use Rattle.ada_meaning.specs.declared.event.Birth.{Birth}
 use Rattle.ada_meaning.specs.declared.event.Birth.TheVariants.{Creation, Copy, Adjustment}
 use Rattle.ada_meaning.specs.declared.event.Cause.{Cause}
