@@ -80,6 +80,10 @@ each_alive (p ∷ ps) all (suc n) lt = each_alive ps (later p.alive all) n (omeg
     later true h = h
     later false h = absurd (cc h)
 
+alive_one : (b : Bool) → b ≡ true → one_if b ≡ 1
+alive_one true is = refl
+alive_one false is = absurd (cc is)
+
 parts_there : (types : List TypeDefinition) (x : Object) → x.listed ≡ true → Sane types x → length x.cell.parts ≡ parts_held types x.cell.access
 parts_there types x listed (exists stage out parts) = parts
 parts_there types x listed (is_gone gone unlisted dead) = let never : true ≡ false = sym listed ∙ unlisted in absurd (cc never)
@@ -109,7 +113,7 @@ module _ (types : List TypeDefinition) (past : List Event) (s : State) (h : Fits
       let p = each_alive x.cell.parts all n (omega (arith, within, le)) in
       let c = subst (λ (found : Option Object). Claimed found n (gains shapes o n (doings s.control)) (losses shapes o n (doings s.control))) at_o (h.inv.claims o n)
       (listed_exists types x listed sane) p.0 p.1.0 in
-      let a = ap one_if p.1.1 in
+      let a = alive_one p.0.alive p.1.1 in
       omega (arith, a, c, spare)
 
   -- Nothing is done to it behind code, or behind what is found.

@@ -10,3 +10,5 @@ pub mod Assigned
 pub mod Steps
 -- whole runs
 pub mod Runs
+-- a program that meets the premises
+pub mod Example

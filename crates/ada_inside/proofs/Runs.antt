@@ -19,7 +19,7 @@ use Rattle.ada_assigned.specs.Law.{operations_assign_inside, CalledAssignBeside}
 use Rattle.ada_assigned.proofs.Keeping.{Told}
 use Rattle.ada_assigned.proofs.Runs.{last_stands}
 use Rattle.ada_assigned.proofs.Texts.{count_formals}
-use Rattle.ada_inside.specs.Law.{NestInside, IsLeftApart, LeavesApart, OperationsNestInside, NestedValuesExist}
+use Rattle.ada_inside.specs.Law.{NestInside, IsLeftApart, LeavesApart, StepsNestInside, OperationsNestInside, NestedValuesExist}
 use Rattle.ada_inside.proofs.Steps.{next_nests}
 
 module _ (program : Program) (well : IsWellFormed (program_form program)) (within called : ℕ → Bool) (inside : operations_assign_inside (program_form program) within called ≡ true)
@@ -47,6 +47,10 @@ module _ (program : Program) (well : IsWellFormed (program_form program)) (withi
 
     pub state_nests : (events : List Event) (last : State) → Run program (first_state program input) events last → NestInside (shapes_of program.types.items) last.control
     state_nests events last run = run_nests [] events (first_state program input) last here tt run
+
+pub steps_nest : StepsNestInside
+steps_nest program well within called inside beside input events before after choice event run h step apart =
+    step_nests program well within called inside beside input events before after choice event run h step apart
 
 pub operations_nest : OperationsNestInside
 operations_nest program well within called inside beside apart input events last run = state_nests program well within called inside beside input apart events last run

@@ -16,7 +16,7 @@ use Rattle.ada_meaning.specs.declared.state.Value.{Value}
 use Rattle.ada_meaning.specs.Frame.{Frame, Treatment, begins, ends}
 use Rattle.ada_meaning.specs.Frame as frame
 use Rattle.ada_meaning.specs.Named.{State}
-use Rattle.ada_meaning.specs.Run.{Event, Run, Halts, first_state}
+use Rattle.ada_meaning.specs.Run.{Event, Choice, Step, Run, Halts, first_state}
 use Rattle.ada_finalized.specs.Law.{NoOperationRunsOn, IsInside, TreatsInside}
 use Rattle.ada_assigned.specs.Law.{operations_assign_inside, CalledAssignBeside}
 
@@ -45,13 +45,22 @@ IsLeftApart s =
     (v : Value) (master item : ℕ) (tasks : List Task) (k : List (Frame Value)) → s.control ≡ frame.Treats v (ends (Leaving master item)) tasks ∷ k
     → NoOperationRunsOn v k
 
+-- A step of a run of a well-formed program whose operations assign to records with controlled parts at hand alone (5.2), and so do the procedures that they call, keeps
+-- all operations that run inside of each other, if behind it an object whose master is left stands so.
+abbrev pub StepsNestInside : Type 0
+StepsNestInside =
+    (program : Program) → IsWellFormed (program_form program) → (within called : ℕ → Bool) → operations_assign_inside (program_form program) within called ≡ true
+    → CalledAssignBeside (program_form program) called
+    → (input : List ℤ) (events : List Event) (before after : State) (choice : Choice) (event : Event) → Run program (first_state program input) events before
+    → NestInside (shapes_of program.types.items) before.control → Step program before choice event after → IsLeftApart after
+    → NestInside (shapes_of program.types.items) after.control
+
 -- So it is in each state of each run of a program.
 abbrev pub LeavesApart : Program → Type 0
 LeavesApart program =
     (input : List ℤ) (events : List Event) (last : State) → Run program (first_state program input) events last → IsLeftApart last
 
--- In each run of a well-formed program whose operations assign to records with controlled parts at hand alone (5.2), and so do the procedures that they call, and which
--- leaves objects so, all operations that run are inside of each other.
+-- In each run of such a program that leaves objects so, all operations that run are inside of each other.
 abbrev pub OperationsNestInside : Type 0
 OperationsNestInside =
     (program : Program) → IsWellFormed (program_form program) → (within called : ℕ → Bool) → operations_assign_inside (program_form program) within called ≡ true

@@ -2,3 +2,5 @@
 
 -- the laws
 pub mod Law
+-- a program that meets the premises
+pub mod Example

@@ -1,9 +1,15 @@
 //! The laws of operations inside of each other. Each is a function that does nothing, and whose contract is the theorem.
 
-ghost use Rattle.ada_inside.specs.Law.{NestedValuesExist, OperationsNestInside};
+ghost use Rattle.ada_inside.specs.Example.{PremisesAreMet};
+ghost use Rattle.ada_inside.specs.Law.{NestedValuesExist, OperationsNestInside, StepsNestInside};
 
-/// Where operations assign to records with controlled parts at hand alone, and so does what they call, each operation that runs, and
-/// each treatment, is inside of all operations of its object behind it, to any depth.
+/// Where operations assign to records with controlled parts at hand alone, and so does what they call, a step keeps each operation that
+/// runs, and each treatment, inside of all operations of its object behind it.
+pub fn steps_nest_inside()
+    ensures { StepsNestInside }
+{}
+
+/// So it is in each state of a run, to any depth.
 pub fn operations_nest_inside()
     ensures { OperationsNestInside }
 {}
@@ -11,4 +17,9 @@ pub fn operations_nest_inside()
 /// So each value that is finalized there exists, whichever operations of the object run.
 pub fn nested_values_exist()
     ensures { NestedValuesExist }
+{}
+
+/// The premises are met: an Initialize assigns to a component of its formal parameter, whose Finalize assigns to a component of its own.
+pub fn premises_are_met()
+    ensures { PremisesAreMet }
 {}
