@@ -78,12 +78,23 @@ up_to_innermost = steps 3 ++ takes 0 ∷ takes 0 ∷ steps 4 ++ takes 0 ∷ step
 nests_innermost : InSomeRun program (λ events last. NestsInnermost program last)
 unfolding next expression_form stmt_form
 nests_innermost =
-    run_by program (nested_finalize ∷ nested_initialize ∷ []) nested_stmts bodies form up_to_innermost (λ events last. NestsInnermost program last) refl
-    ((_, _, (_ ∷ _ ∷ _ ∷ _ ∷ _ ∷ _ ∷ _ ∷ []), _, refl, refl, (λ none. none.0 refl), one_of InBoth 2 leaf_in_both),
-    (one_of InBoth 2 leaf_in_both, ((one_of InBoth 2 leaf_in_both, none_of InBoth), (one_of InX 2 (in_x 2 (omega arith) (omega arith)),
-    ((two_of InX 2 1 (in_x 2 (omega arith) (omega arith)) (in_x 1 (omega arith) (omega arith)), none_of InX),
-    ((record { itself = tt; within = λ n lies. tt }, (λ n has. tt), (λ n has. tt)), tt))))),
-    λ v m i tasks k never. absurd (cc never))
+    run_by program (nested_finalize ∷ nested_initialize ∷ []) nested_stmts bodies form up_to_innermost (λ events last. NestsInnermost program last) refl (
+      (_, _, (_ ∷ _ ∷ _ ∷ _ ∷ _ ∷ _ ∷ _ ∷ []), _, refl, refl, (λ none. none.0 refl), one_of InBoth 2 leaf_in_both),
+      (
+        one_of InBoth 2 leaf_in_both,
+        (
+          (one_of InBoth 2 leaf_in_both, none_of InBoth),
+          (
+            one_of InX 2 (in_x 2 (omega arith) (omega arith)),
+            (
+              (two_of InX 2 1 (in_x 2 (omega arith) (omega arith)) (in_x 1 (omega arith) (omega arith)), none_of InX),
+              ((record { itself = tt; within = λ n lies. tt }, (λ n has. tt), (λ n has. tt)), tt),
+            ),
+          ),
+        ),
+      ),
+      λ v m i tasks k never. absurd (cc never),
+    )
 
 pub premises_are_met : PremisesAreMet
 premises_are_met = (program, shapes, inner_operations, outer_operations, bodies, form, well_formed, assigns_so, (λ procedure never. absurd (cc never)), nests_innermost)
