@@ -12,3 +12,5 @@ pub mod Steps
 pub mod Runs
 -- a program that meets the premises
 pub mod Example
+-- one that does not
+pub mod Needed

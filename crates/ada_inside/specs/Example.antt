@@ -1,4 +1,4 @@
--- A program whose Initialize assigns to a component of its formal parameter, and the Finalize of that to a component of its own: it meets the premises.
+-- A program whose Initialize assigns to a component of its formal parameter, and the Finalize of that to a component of its own, meets the premises; and they are needed.
 
 use Rattle.std.specs.Prelude.{◌≡◌, true, false, [], ◌∷◌}
 use Rattle.ada_program.specs.declared.program.Program.{Program}
@@ -8,6 +8,7 @@ use Rattle.ada_program.specs.ProgramForm.{program_form, body_forms}
 use Rattle.ada_program.specs.WellFormed.{IsWellFormed}
 use Rattle.ada_meaning.specs.Named.{State}
 use Rattle.ada_order.specs.Example.{InSomeRun}
+use Rattle.ada_finalized.specs.Example.{assigning_finalize, object_stmts}
 use Rattle.ada_finalized.specs.Nested.{nested_shapes, inner_finalizes, outer_initializes, nested_finalize, nested_initialize, nested_stmts, TreatsInnermost}
 use Rattle.ada_assigned.specs.Law.{operations_assign_inside, CalledAssignBeside}
 use Rattle.ada_inside.specs.Law.{NestInside, IsLeftApart}
@@ -24,3 +25,10 @@ PremisesAreMet =
     × (stmt_forms program ≡ nested_stmts) × IsWellFormed (program_form program)
     × (operations_assign_inside (program_form program) (λ t. true) (λ procedure. false) ≡ true) × CalledAssignBeside (program_form program) (λ procedure. false)
     × InSomeRun program (λ events last. NestsInnermost program last)
+
+-- Another well-formed program, whose Finalize assigns to its formal parameter as a whole, comes to an assignment that is not inside of the Finalize.
+abbrev pub PremiseIsNeeded : Type 0
+PremiseIsNeeded =
+    (program : Program) × (body_forms program ≡ assigning_finalize ∷ []) × (stmt_forms program ≡ object_stmts) × IsWellFormed (program_form program)
+    × (operations_assign_inside (program_form program) (λ t. true) (λ procedure. false) ≡ false)
+    × InSomeRun program (λ events last. NestInside (shapes_of program.types.items) last.control → ⊥)

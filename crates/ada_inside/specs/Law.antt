@@ -45,8 +45,8 @@ IsLeftApart s =
     (v : Value) (master item : ℕ) (tasks : List Task) (k : List (Frame Value)) → s.control ≡ frame.Treats v (ends (Leaving master item)) tasks ∷ k
     → NoOperationRunsOn v k
 
--- A step of a run of a well-formed program whose operations assign to records with controlled parts at hand alone (5.2), and so do the procedures that they call, keeps
--- all operations that run inside of each other, if behind it an object whose master is left stands so.
+-- A step of a run of a well-formed program whose operations assign to records with controlled parts at hand alone (5.2), and what they call to those that it declares,
+-- keeps all operations that run inside of each other, if behind it an object whose master is left stands so.
 abbrev pub StepsNestInside : Type 0
 StepsNestInside =
     (program : Program) → IsWellFormed (program_form program) → (within called : ℕ → Bool) → operations_assign_inside (program_form program) within called ≡ true
@@ -60,7 +60,7 @@ abbrev pub LeavesApart : Program → Type 0
 LeavesApart program =
     (input : List ℤ) (events : List Event) (last : State) → Run program (first_state program input) events last → IsLeftApart last
 
--- In each run of such a program that leaves objects so, all operations that run are inside of each other.
+-- In each run of such a program all operations that run are inside of each other, if an object whose master is left stands so in each run.
 abbrev pub OperationsNestInside : Type 0
 OperationsNestInside =
     (program : Program) → IsWellFormed (program_form program) → (within called : ℕ → Bool) → operations_assign_inside (program_form program) within called ≡ true

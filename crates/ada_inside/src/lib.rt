@@ -2,7 +2,8 @@
 //! operations of these run inside of it, on the same object, to any depth (5.2, 7.6, 7.6.1). Nothing here runs: each function of
 //! [`laws`] is a theorem on the definitions of meaning, and its contract is the statement.
 //!
-//! What a crate above takes from here: `NestInside` and `LeavesApart` of `specs::Law`, and `state_nests` and `values_exist` of `proofs::Runs`.
+//! What a crate above takes from here: `NestInside` and `IsLeftApart` of `specs::Law`, and `step_nests`, `state_nests` and `values_exist`
+//! of `proofs::Runs`.
 #![tactic(auto)]
 
 pub mod laws;
