@@ -1,6 +1,6 @@
 -- No operation runs of an object that is new, or that a Free takes out of its collection, all of whose parts have values (4.8, 13.11.2).
 
-use Rattle.std.proofs.Common.{◌≡◌, ℕ, zero, suc, ◌<◌, Bool, true, false, ◌&&◌, if◌then◌else◌, List, [], ◌∷◌, length, ℤ, Option, Some, None, refl, sym, ap, ◌∙◌, subst, arith}
+use Rattle.std.proofs.Common.{◌≡◌, ℕ, ◌+◌, zero, suc, ◌<◌, Bool, true, false, ◌&&◌, if◌then◌else◌, List, [], ◌∷◌, length, ℤ, Option, Some, None, refl, sym, ap, ◌∙◌, subst, arith}
 use Rattle.std.specs.List.{slice_get}
 use Rattle.ada_program.specs.declared.program.Program.{Program}
 use Rattle.ada_program.specs.declared.program.TypeDefinition.{TypeDefinition}
@@ -16,7 +16,8 @@ use Rattle.ada_meaning.specs.Heap.{PartState, Cell, on_gone, finds}
 use Rattle.ada_meaning.specs.Named.{Object, State, standing, standing_by, all_alive}
 use Rattle.ada_meaning.specs.Run.{Event, Run, first_state}
 use Rattle.ada_meaning.specs.Step.{parts_held}
-use Rattle.ada_finalized.specs.Law.{NoOperationRunsOn}
+use Rattle.ada_finalized.specs.Law.{NothingBegins, NoOperationRunsOn}
+use Rattle.ada_meaning.proofs.Members.{IsListed}
 use Rattle.ada_finalized.proofs.Claims.{Claimed}
 use Rattle.ada_finalized.proofs.Counts.{one_if}
 use Rattle.ada_finalized.proofs.Doings.{name, same_name, Doing, Treating, Ending, doings, Calm, rest, rest_doings, Of, of_map, Other, Lasts, gains, losses}
@@ -24,7 +25,7 @@ use Rattle.ada_finalized.proofs.Going.{listed_exists}
 use Rattle.ada_finalized.proofs.Invariant.{Sane, exists, is_gone, AssignsThen, Stands, runs, finding, passing, ends_operation, beginning, ending, leaving, storing, Fits}
 use Rattle.ada_finalized.proofs.Ranks.{Heap}
 use Rattle.ada_finalized.proofs.Stacks.{Acts, Control, code, guard, finalization, Stack, awaits, confines, to_end, to_copy, IsPart, IsSpare, others}
-use Rattle.ada_finalized.proofs.Standing.{none_runs_on}
+use Rattle.ada_finalized.proofs.Standing.{none_runs_on, none_runs_on_listed}
 use Rattle.ada_finalized.proofs.Twice.{operated_exist}
 
 -- A new object is not there yet.
@@ -40,6 +41,16 @@ new_alone program input events s run =
   where
     missing : (o : Id) → name (length s.heap) ≡ Names o → (x : Object) → slice_get s.heap o.0 ≡ Some x → ⊥
     missing o is x at_o = none_there s.heap x (ap (slice_get s.heap) (same_name (length s.heap) o.0 is) ∙ at_o)
+
+-- One that leaves its collection, where nothing initializes or adjusts it.
+pub listed_alone : (program : Program) (input : List ℤ) (events : List Event) (s : State) → Run program (first_state program input) events s → (v : Value)
+    → IsListed 0 s.heap v → NothingBegins v s.control → NoOperationRunsOn v s.control
+listed_alone program input events s run v l none =
+    let o : Id = record { 0 = l.place } in
+    let same : 0 + l.place ≡ l.place = omega arith in
+    let named : v ≡ Names o = l.named ∙ ap name same in
+    subst (λ (w : Value). NoOperationRunsOn w s.control) (sym named)
+    (none_runs_on_listed program input events s run o l.object l.there l.listed (subst (λ (w : Value). NothingBegins w s.control) named none))
 
 -- What stands in its collection, with all values.
 pub record Stood (xs : Heap) (v : Value) : Type 0 where

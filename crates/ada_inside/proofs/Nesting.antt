@@ -10,8 +10,8 @@ use Rattle.ada_meaning.specs.declared.state.Value.{Value}
 use Rattle.ada_meaning.specs.Frame.{Frame, Treatment, begins, ends}
 use Rattle.ada_meaning.specs.Frame as frame
 use Rattle.ada_meaning.specs.Step.{treating}
-use Rattle.ada_finalized.specs.Law.{NoOperationRunsOn, TreatsInside}
-use Rattle.ada_finalized.proofs.Doings.{rest}
+use Rattle.ada_finalized.specs.Law.{NothingBegins, NoOperationRunsOn, TreatsInside}
+use Rattle.ada_finalized.proofs.Doings.{Calm, rest}
 use Rattle.ada_finalized.proofs.Inside.{none_inside}
 use Rattle.ada_finalized.proofs.Stacks.{Control}
 use Rattle.ada_inside.specs.Law.{BegunInside, NestInside}
@@ -100,3 +100,36 @@ alone_from v (f ∷ k) none = alone_from v k none
 
 pub alone_alike : (v : Value) (j k : Control) → rest j ≡ rest k → NoOperationRunsOn v k → NoOperationRunsOn v j
 alone_alike v j k same none = alone_from v j (subst (NoOperationRunsOn v) (sym same) (alone_rest v k none))
+
+-- Nothing initializes or adjusts an object behind a frame.
+pub nothing_front : (v : Value) (f : Frame Value) (k : Control) → Calm f → NothingBegins v k → NothingBegins v (f ∷ k)
+nothing_front v (frame.Treats w treatment tasks) k c none = absurd c
+nothing_front v (frame.Awaits w by done of part tasks) k c none = absurd c
+nothing_front v f k c none = none
+
+nothing_rest : (v : Value) (k : Control) → NothingBegins v k → NothingBegins v (rest k)
+nothing_rest v [] none = none
+nothing_rest v (frame.Treats w (begins by done) tasks ∷ k) none = none
+nothing_rest v (frame.Treats w (ends cause) tasks ∷ k) none = none
+nothing_rest v (frame.Awaits w by done of part tasks ∷ k) none = none
+nothing_rest v (frame.Confines ∷ k) none = none
+nothing_rest v (frame.Assigns t ∷ k) none = none
+nothing_rest v (frame.Ends w ∷ k) none = none
+nothing_rest v (frame.GivesBack w cause pool ∷ k) none = none
+nothing_rest v (frame.Returns actuals references ∷ k) none = none
+nothing_rest v (f ∷ k) none = nothing_rest v k none
+
+nothing_from : (v : Value) (k : Control) → NothingBegins v (rest k) → NothingBegins v k
+nothing_from v [] none = none
+nothing_from v (frame.Treats w (begins by done) tasks ∷ k) none = none
+nothing_from v (frame.Treats w (ends cause) tasks ∷ k) none = none
+nothing_from v (frame.Awaits w by done of part tasks ∷ k) none = none
+nothing_from v (frame.Confines ∷ k) none = none
+nothing_from v (frame.Assigns t ∷ k) none = none
+nothing_from v (frame.Ends w ∷ k) none = none
+nothing_from v (frame.GivesBack w cause pool ∷ k) none = none
+nothing_from v (frame.Returns actuals references ∷ k) none = none
+nothing_from v (f ∷ k) none = nothing_from v k none
+
+pub nothing_alike : (v : Value) (j k : Control) → rest j ≡ rest k → NothingBegins v k → NothingBegins v j
+nothing_alike v j k same none = nothing_from v j (subst (NothingBegins v) (sym same) (nothing_rest v k none))

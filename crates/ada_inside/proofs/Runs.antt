@@ -56,7 +56,7 @@ pub operations_nest : OperationsNestInside
 operations_nest program well within called inside beside apart input events last run = state_nests program well within called inside beside input apart events last run
 
 -- So the treatment that comes next is inside.
-treated_inside : (program : Program) (v : Value) (treatment : Treatment) (tasks : List Task) (k : List (Frame Value))
+pub treated_inside : (program : Program) (v : Value) (treatment : Treatment) (tasks : List Task) (k : List (Frame Value))
     → NestInside (shapes_of program.types.items) (frame.Treats v treatment tasks ∷ k) → TreatsInside (shapes_of program.types.items) v tasks k
 treated_inside program v (begins by done) tasks k h = h.0.0
 treated_inside program v (ends cause) tasks k h = h.0

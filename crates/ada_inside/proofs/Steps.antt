@@ -33,7 +33,7 @@ use Rattle.ada_meaning.specs.Step.{halts, picks, at, older, operands, popped, ne
 use Rattle.ada_meaning.specs.Named.{State, Next, named, next, look, lent, same, on_object, returned, finalize}
 use Rattle.ada_meaning.specs.Run.{Event, Run, first_state}
 use Rattle.ada_meaning.proofs.Kept.{IsWithin}
-use Rattle.ada_finalized.specs.Law.{NoOperationRunsOn, IsInside, TreatsInside}
+use Rattle.ada_finalized.specs.Law.{NothingBegins, NoOperationRunsOn, IsInside, TreatsInside}
 use Rattle.ada_finalized.proofs.Doings.{name, number_of, Calm, rest}
 use Rattle.ada_finalized.proofs.Inside.{inside_performed}
 use Rattle.ada_finalized.proofs.InnerParts.{inside_picked, begun_operation_inside}
@@ -49,8 +49,8 @@ use Rattle.ada_finalized.proofs.Walk.{frame_does, jump_calm}
 use Rattle.ada_assigned.proofs.Keeping.{Told}
 use Rattle.ada_assigned.proofs.Seeking.{Stands, operands_popped}
 use Rattle.ada_inside.specs.Law.{BegunInside, OperatesInside, NestInside, IsLeftApart}
-use Rattle.ada_inside.proofs.Nesting.{nests_behind, nests_alike, begins_nest, ends_nest, none_begun, all_inside, alone_behind, alone_alike}
-use Rattle.ada_inside.proofs.Alone.{new_alone, IsPlain, freed_alone}
+use Rattle.ada_inside.proofs.Nesting.{nests_behind, nests_alike, begins_nest, ends_nest, none_begun, all_inside, alone_behind, alone_alike, nothing_front, nothing_alike}
+use Rattle.ada_inside.proofs.Alone.{new_alone, listed_alone, IsPlain, freed_alone}
 use Rattle.ada_inside.proofs.Assigned.{adjusts_inside, finalizes_inside}
 
 module _ (program : Program) (input : List ℤ) (events : List Event) (s : State) (run : Run program (first_state program input) events s)
@@ -89,23 +89,24 @@ module _ (program : Program) (input : List ℤ) (events : List Event) (s : State
     -- An object is taken out as its master is left.
     left_nests :
         (u : State) (v : Value) (cause : Cause) (pool : Option ℕ) (tasks : List Task) (j : Control) → number_of cause ≡ None
-        → u.control ≡ treating v (ends cause) tasks (frame.Ends v ∷ frame.GivesBack v cause pool ∷ j) → NestInside shapes j → IsLeftApart u → NestInside shapes u.control
-    left_nests u v (Leaving m i) pool [] j none control h apart = subst (NestInside shapes) (sym control) h
-    left_nests u v (Leaving m i) pool (task ∷ tasks) j none control h apart =
+        → u.control ≡ treating v (ends cause) tasks (frame.Ends v ∷ frame.GivesBack v cause pool ∷ j) → NestInside shapes j → (NothingBegins v j → NoOperationRunsOn v j) → IsLeftApart u
+        → NestInside shapes u.control
+    left_nests u v (Leaving m i) pool [] j none control h alone_if apart = subst (NestInside shapes) (sym control) h
+    left_nests u v (Leaving m i) pool (task ∷ tasks) j none control h alone_if apart =
         let after = frame.Ends v ∷ frame.GivesBack v (Leaving m i) pool ∷ j in
-        subst (NestInside shapes) (sym control) (all_inside shapes v (task ∷ tasks) after (apart v m i (task ∷ tasks) after control), h)
-    left_nests u v (Freeing n) pool tasks j none control h apart = absurd (cc none)
-    left_nests u v (Assigning n) pool tasks j none control h apart = absurd (cc none)
-    left_nests u v (Undoing n) pool tasks j none control h apart = absurd (cc none)
+        subst (NestInside shapes) (sym control) (all_inside shapes v (task ∷ tasks) after (alone_if (apart v m i (task ∷ tasks) after control)), h)
+    left_nests u v (Freeing n) pool tasks j none control h alone_if apart = absurd (cc none)
+    left_nests u v (Assigning n) pool tasks j none control h alone_if apart = absurd (cc none)
+    left_nests u v (Undoing n) pool tasks j none control h alone_if apart = absurd (cc none)
 
     taken_nests :
         (after u : State) (v : Value) (cause : Cause) (pool : Option ℕ) (found : Found (Cell Value)) → number_of cause ≡ None → after ≡ taken_out named types cause pool v found u
-        → NestInside shapes u.control → IsLeftApart after → NestInside shapes after.control
-    taken_nests after u v cause pool on_null none was h apart = subst (λ (w : State). NestInside shapes w.control) (sym was) h
-    taken_nests after u v cause pool on_gone none was h apart = subst (λ (w : State). NestInside shapes w.control) (sym was) h
-    taken_nests after u v cause pool on_other none was h apart = subst (λ (w : State). NestInside shapes w.control) (sym was) h
-    taken_nests after u v cause pool (finds cell) none was h apart =
-        left_nests after v cause pool (all_tasks types cell.access WholeFirst) u.control none (ap (λ (w : State). w.control) was) h apart
+        → NestInside shapes u.control → (NothingBegins v u.control → NoOperationRunsOn v u.control) → IsLeftApart after → NestInside shapes after.control
+    taken_nests after u v cause pool on_null none was h alone_if apart = subst (λ (w : State). NestInside shapes w.control) (sym was) h
+    taken_nests after u v cause pool on_gone none was h alone_if apart = subst (λ (w : State). NestInside shapes w.control) (sym was) h
+    taken_nests after u v cause pool on_other none was h alone_if apart = subst (λ (w : State). NestInside shapes w.control) (sym was) h
+    taken_nests after u v cause pool (finds cell) none was h alone_if apart =
+        left_nests after v cause pool (all_tasks types cell.access WholeFirst) u.control none (ap (λ (w : State). w.control) was) h alone_if apart
 
     -- Code.
     module _ (on : s.mode ≡ Running) (c : Calm f) (plain : IsPlain f) where
@@ -124,7 +125,11 @@ module _ (program : Program) (input : List ℤ) (events : List Event) (s : State
           subst (NestInside shapes) (sym control)
           (ends_nest shapes v (Freeing s.next) tasks back (all_inside shapes v tasks back none) (nests_alike shapes j k left behind))
       made_nests e u (mild, made.takes v cause pool w none listed left mode heap was) apart =
-          taken_nests u w v cause pool (look s.heap v) none was (nests_alike shapes w.control k left behind) apart
+          taken_nests u w v cause pool (look s.heap v) none was (nests_alike shapes w.control k left behind)
+          (λ nothing.
+          alone_alike v w.control k left
+          (alone v (listed_alone program input events s run v listed
+          (subst (NothingBegins v) (sym is) (nothing_front v f k c (nothing_alike v k w.control (sym left) nothing)))))) apart
       made_nests e u (mild, copies target source t j same left mode control) apart = subst (NestInside shapes) (sym control) (nests_alike shapes j k left behind)
 
       calm_nests : IsWithin f → Lead (frame_next named types bodies f (at k s))

@@ -1,4 +1,4 @@
--- A program whose Initialize assigns to a component of its formal parameter, and the Finalize of that to a component of its own, meets the premises; and they are needed.
+-- A program whose Initialize assigns to a component of its formal parameter, and the Finalize of that to a component of its own, meets the premises, which are needed.
 
 use Rattle.std.specs.Prelude.{◌≡◌, true, false, [], ◌∷◌}
 use Rattle.ada_program.specs.declared.program.Program.{Program}

@@ -17,7 +17,7 @@ use Rattle.ada_meaning.specs.Frame.{Frame, Treatment, begins, ends}
 use Rattle.ada_meaning.specs.Frame as frame
 use Rattle.ada_meaning.specs.Named.{State}
 use Rattle.ada_meaning.specs.Run.{Event, Choice, Step, Run, Halts, first_state}
-use Rattle.ada_finalized.specs.Law.{NoOperationRunsOn, IsInside, TreatsInside}
+use Rattle.ada_finalized.specs.Law.{NothingBegins, IsInside, TreatsInside}
 use Rattle.ada_assigned.specs.Law.{operations_assign_inside, CalledAssignBeside}
 
 -- The parts of an object that a treatment has begun are inside of each operation of the object that runs behind it (7.6).
@@ -39,14 +39,13 @@ NestInside shapes (frame.Awaits v by done of part tasks ∷ k) =
     (OperatesInside shapes v (record { of = of; number = part }) k × TreatsInside shapes v tasks k × BegunInside shapes v done k) × NestInside shapes k
 NestInside shapes (f ∷ k) = NestInside shapes k
 
--- Where an object is finalized next because its master is left (7.6.1), no operation of it runs.
+-- Where an object is finalized next because its master is left (7.6.1), nothing that is left to do behind that initializes or adjusts it (7.6).
 abbrev pub IsLeftApart : State → Type 0
 IsLeftApart s =
-    (v : Value) (master item : ℕ) (tasks : List Task) (k : List (Frame Value)) → s.control ≡ frame.Treats v (ends (Leaving master item)) tasks ∷ k
-    → NoOperationRunsOn v k
+    (v : Value) (master item : ℕ) (tasks : List Task) (k : List (Frame Value)) → s.control ≡ frame.Treats v (ends (Leaving master item)) tasks ∷ k → NothingBegins v k
 
--- A step of a run of a well-formed program whose operations assign to records with controlled parts at hand alone (5.2), and what they call to those that it declares,
--- keeps all operations that run inside of each other, if behind it an object whose master is left stands so.
+-- A well-formed program whose operations assign to records with controlled parts at hand alone (5.2), and what they call to those that it declares itself: a step of a
+-- run keeps all operations that run inside of each other, if an object whose master is left stands so behind it.
 abbrev pub StepsNestInside : Type 0
 StepsNestInside =
     (program : Program) → IsWellFormed (program_form program) → (within called : ℕ → Bool) → operations_assign_inside (program_form program) within called ≡ true
@@ -55,12 +54,12 @@ StepsNestInside =
     → NestInside (shapes_of program.types.items) before.control → Step program before choice event after → IsLeftApart after
     → NestInside (shapes_of program.types.items) after.control
 
--- So it is in each state of each run of a program.
+-- An object whose master is left stands so in each state of each run of a program.
 abbrev pub LeavesApart : Program → Type 0
 LeavesApart program =
     (input : List ℤ) (events : List Event) (last : State) → Run program (first_state program input) events last → IsLeftApart last
 
--- In each run of such a program all operations that run are inside of each other, if an object whose master is left stands so in each run.
+-- In each run of such a program all operations that run are inside of each other, if an object whose master is left stands so in each of its runs.
 abbrev pub OperationsNestInside : Type 0
 OperationsNestInside =
     (program : Program) → IsWellFormed (program_form program) → (within called : ℕ → Bool) → operations_assign_inside (program_form program) within called ≡ true
