@@ -308,9 +308,6 @@ module _ (program : Program) (input : List ℤ) (events : List Event) (s : State
       treating_in v by [] k finalized inside_it = inside_it
       treating_in v by (task ∷ tasks) k finalized inside_it = inside_it
 
-  newest_first : (u : State) → newest named u ≡ first_or Null (operands u)
-  newest_first u = refl
-
   found_nests : (t : ℕ) (k : Control) → s.control ≡ frame.Assigns t ∷ k → s.mode ≡ Running → NestInside shapes k → Lead (frame_next named types bodies (frame.Assigns t) (at k s))
   found_nests t k is on h =
       let target = newest named (popped (at k s)) in
